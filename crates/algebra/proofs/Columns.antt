@@ -1,0 +1,3 @@
+-- Columns that moved.
+pub mod Picked
+pub mod Moved

@@ -1,0 +1,3 @@
+-- Domains and the rows under them.
+pub mod Part
+pub mod Keys

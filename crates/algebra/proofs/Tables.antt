@@ -1,0 +1,8 @@
+-- Whole plans: their nodes, their rewriting, and the theorem.
+pub mod Even
+pub mod Agreement
+pub mod Tidy
+pub mod Placing
+pub mod Nodes
+pub mod Theorem
+pub mod Growth
