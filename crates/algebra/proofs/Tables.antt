@@ -1,6 +1,7 @@
 -- Whole plans: their nodes, their rewriting, and the theorem.
 pub mod Even
 pub mod Agreement
+pub mod Shapes
 pub mod Tidy
 pub mod Placing
 pub mod Nodes
