@@ -1,5 +1,4 @@
 -- Laws of lists and rows that know nothing of plans.
-pub mod Tests
 pub mod Every
 pub mod Keep
 pub mod Entries

@@ -1,19 +1,19 @@
 -- A reference to where the same column now stands gives the same value.
-use mathlib.Core.Path.{_∙_, _≡_, ap, refl, sym}
-use mathlib.Core.Bool.{Bool, _&&_, and-assoc, cond, false, not, true}
+use mathlib.Core.Path.{_∙_, _≡_, refl, sym}
+use mathlib.Core.Bool.{Bool, _&&_, and-assoc, cond, false, true}
 use mathlib.Core.List.{List, [], _++_, _∷_, append-assoc, map}
 use Prim.Native.Nat.{_+_, _-_, _<_, _≤_, ℕ}
 use native.Mathlib.Omega.{arith}
-use lib.Dec.{ltb, ltb→lt, nltb→le}
+use lib.Dec.{ltb}
 use lib.ListN.{List·getD-append, drop, getD, length, length-append, length-map, take}
 use lib.Seq.{drop-at, getD-drop, take-append-le}
+use borrow.Author.Tests.{ltb-true, ltb-false}
 use Rattle.algebra.specs.Lists.{Every, each, upto}
 use Rattle.algebra.specs.Value.{Row, holds, null, sameRow}
 use Rattle.algebra.specs.Plan.{Aggregate, Computation, Conjunct, Term, add, column, constant, copy, count, maximum, minimum, nothing, outer, subtract, sum}
 use Rattle.algebra.specs.Operators.{Outer, aggregated, aggregates, columnOf, computed, passes, picked, valueOf}
 use Rattle.algebra.specs.Columns.{Column, computationReads, conjunctReads, termReads}
 use Rattle.algebra.specs.Domains.{Domain, match, moveAggregate, moveComputation, moveConjunct, moveTerm, shift, shiftBoth}
-use Rattle.algebra.proofs.Lists.Tests.{true-T}
 use Rattle.algebra.proofs.Lists.Every.{every-back, every-front, every-head, every-map, every-of}
 use Rattle.algebra.proofs.Lists.Keep.{map-id, map-map}
 use Rattle.algebra.proofs.Columns.Picked.{getD-past, picked-span, picked-upto}
@@ -78,10 +78,10 @@ local-both w d m a l b r ea el eb p = go (ltb p w) refl
   where
     go : (t : Bool) → ltb p w ≡ t → getD ((a ++ l) ++ (b ++ r)) (cond t (d + p) (d + m + p)) null ≡ getD (l ++ r) p null
     go true e =
-        let h : p < length l = omega (arith, ltb→lt p w (true-T (ltb p w) e)) in
+        let h : p < length l = omega (arith, ltb-true p w e) in
         rw (append-assoc a l (b ++ r)) (getD-past a (l ++ (b ++ r)) (d + p) p (omega arith) ∙ List·getD-append l (b ++ r) null p h ∙ sym (List·getD-append l r null p h))
     go false e =
-        let h : w ≤ p = nltb→le p w (true-T (not (ltb p w)) (ap not e)) in
+        let h : w ≤ p = ltb-false p w e in
         rw (← append-assoc (a ++ l) b r) (getD-past (a ++ l ++ b) r (d + m + p) (p - w) (simp length-append (omega arith)) ∙ sym (getD-past l r p (p - w) (omega arith)))
 
 -- ---- a domain's row (the && outer) rows

@@ -1,18 +1,18 @@
 -- The columns of a domain: where a read column stands in it, and that each row of its left side has one row in it.
 use mathlib.Core.Path.{_∙_, _≡_, ap, refl, sym}
-use mathlib.Core.Bool.{Bool, cond, false, not, true}
+use mathlib.Core.Bool.{Bool, cond, false, true}
 use mathlib.Core.List.{List, [], _++_, _∷_, append-nil, map}
 use Prim.Native.Nat.{_+_, _<_, _≤_, suc, zero, ℕ}
 use native.Mathlib.Omega.{arith}
 use native.Mathlib.Numerals.{add-one}
-use lib.Dec.{ltb, ltb→lt, nltb→le}
+use lib.Dec.{ltb}
 use lib.ListN.{getD, length, length-append, length-map, take}
 use lib.Seq.{take-all}
+use borrow.Author.Tests.{ltb-true, ltb-false, lt-ltb, le-ltb}
 use Rattle.algebra.specs.Lists.{Every, done, keep, more, upto}
 use Rattle.algebra.specs.Value.{Row, null}
 use Rattle.algebra.specs.Operators.{distinct, grouped, picked}
 use Rattle.algebra.specs.Domains.{below}
-use Rattle.algebra.proofs.Lists.Tests.{ltb-false, ltb-true, true-T}
 use Rattle.algebra.proofs.Lists.Every.{every-append, every-back, every-front, every-head, every-keep, every-map, every-of, every-unmapped, map-agree}
 use Rattle.algebra.proofs.Lists.Keep.{keep-all, keep-append, map-append, map-cong, map-id, map-map}
 use Rattle.algebra.proofs.Lists.Distinct.{Once, once-distinct}
@@ -27,17 +27,17 @@ upto-all zero t q h = absurd (omega arith)
 upto-all {P} (suc n) t q h = go (ltb q n) refl (λ g. upto-all n (every-front (upto n) _ t) q g)
   where
     go : (b : Bool) → ltb q n ≡ b → (q < n → P q) → P q
-    go true e f = f (ltb→lt q n (true-T (ltb q n) e))
+    go true e f = f (ltb-true q n e)
     go false e f =
-        let l = nltb→le q n (true-T (not (ltb q n)) (ap not e)) in
+        let l = ltb-false q n e in
         let s : q ≡ n = omega arith in rw s (every-head (every-back (upto n) (n ∷ []) t))
 
 -- one more column above all others
 below-snoc : (ks : List ℕ) (n q : ℕ) → q ≤ n → below (ks ++ (n ∷ [])) q ≡ below ks q
-below-snoc ks n q h = rw (keep-append (λ j. ltb j q) ks (n ∷ []), ltb-false n q h, append-nil)
+below-snoc ks n q h = rw (keep-append (λ j. ltb j q) ks (n ∷ []), le-ltb n q h, append-nil)
 
 below-last : (ks : List ℕ) (n : ℕ) → Every (λ q. q < n) ks → below ks n ≡ length ks
-below-last ks n t = rw (keep-all (λ j. ltb j n) (every-map (λ q h. ltb-true q n h) t))
+below-last ks n t = rw (keep-all (λ j. ltb j n) (every-map (λ q h. lt-ltb q n h) t))
 
 ranks-snoc : (ks : List ℕ) (n : ℕ) → Every (λ q. q < n) ks → map (below ks) ks ≡ upto (length ks)
     → map (below (ks ++ (n ∷ []))) (ks ++ (n ∷ [])) ≡ upto (length (ks ++ (n ∷ [])))

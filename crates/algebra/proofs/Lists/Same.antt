@@ -4,11 +4,10 @@ use mathlib.Core.Bool.{Bool, _&&_, and-assoc, false, true}
 use mathlib.Core.List.{[], _++_, _∷_}
 use Prim.Native.Nat.{ℕ}
 use native.Mathlib.Omega.{arith}
-use lib.Dec.{eqb, eqb-refl, eqb→eq}
 use lib.IntN.{negsuc, pos, ℤ}
 use lib.ListN.{length}
+use borrow.Author.Tests.{eqb-true, eq-eqb}
 use Rattle.algebra.specs.Value.{Row, Value, eqZ, holds, null, num, same, sameRow}
-use Rattle.algebra.proofs.Lists.Tests.{T-true, true-T}
 
 pub and-left : (a b : Bool) → (a && b) ≡ true → a ≡ true
 and-left true b e = refl
@@ -21,14 +20,14 @@ and-right false b e = cc
 -- ---- sameRow
 
 pub eqZ-eq : (a b : ℤ) → eqZ a b ≡ true → a ≡ b
-eqZ-eq (pos a) (pos b) e = ap pos (eqb→eq a b (true-T (eqb a b) e))
+eqZ-eq (pos a) (pos b) e = ap pos (eqb-true a b e)
 eqZ-eq (pos a) (negsuc b) e = cc
 eqZ-eq (negsuc a) (pos b) e = cc
-eqZ-eq (negsuc a) (negsuc b) e = ap negsuc (eqb→eq a b (true-T (eqb a b) e))
+eqZ-eq (negsuc a) (negsuc b) e = ap negsuc (eqb-true a b e)
 
 pub eqZ-refl : (a : ℤ) → eqZ a a ≡ true
-eqZ-refl (pos a) = T-true (eqb a a) (eqb-refl a)
-eqZ-refl (negsuc a) = T-true (eqb a a) (eqb-refl a)
+eqZ-refl (pos a) = eq-eqb a a refl
+eqZ-refl (negsuc a) = eq-eqb a a refl
 
 pub sameValue-eq : (a b : Value) → holds same a b ≡ true → a ≡ b
 sameValue-eq null null e = refl

@@ -1,13 +1,13 @@
 -- Sums of lists of numbers.
-use mathlib.Core.Path.{_≡_, sym}
+use mathlib.Core.Path.{_≡_, refl, sym}
 use mathlib.Core.List.{List, [], _++_, _∷_, map}
 use Prim.Native.Nat.{_*_, _+_, _≤_, suc, zero, ℕ}
 use native.Mathlib.Nat.{add-suc, add-zero, suc-add, zero-add}
 use native.Mathlib.Omega.{arith}
 use lib.Dec.{eqb}
 use lib.ListN.{getD, length, length-append}
+use borrow.Author.Tests.{eq-eqb}
 use Rattle.algebra.specs.Lists.{keep}
-use Rattle.algebra.proofs.Lists.Tests.{eqb-true}
 use Rattle.algebra.proofs.Lists.Keep.{keep-append}
 
 abbrev pub total : List ℕ → ℕ
@@ -41,7 +41,7 @@ taken-snoc js i (y ∷ xs) x = omega (arith, taken-snoc js (suc i) xs x)
 -- one place takes the entry that stands there
 taken-one : (i j : ℕ) (xs : List ℕ) → getD xs j 0 ≤ taken ((i + j) ∷ []) i xs
 taken-one i j [] = omega arith
-taken-one i zero (x ∷ xs) = rw (add-zero, eqb-true i) (omega arith)
+taken-one i zero (x ∷ xs) = rw (add-zero, eq-eqb i i refl) (omega arith)
 taken-one i (suc j) (x ∷ xs) = rw (add-suc i j, sym (suc-add i j)) (omega (arith, taken-one (suc i) j xs))
 
 -- the entries at some places are taken by those places

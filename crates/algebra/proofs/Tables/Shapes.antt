@@ -5,7 +5,7 @@ use Prim.Native.Nat.{ℕ, suc, _<_}
 use native.Mathlib.Omega.{arith}
 use lib.ListN.{length, getD, take, drop, length-append}
 use lib.Seq.{split-at, length-take-le}
-use Rattle.algebra.specs.Lists.{Every, entry}
+use Rattle.algebra.specs.Lists.{Every}
 use Rattle.algebra.specs.Plan.{Node, scan, select, compute, project, join, group, groupjoin, dependent, inputs}
 use Rattle.algebra.specs.Columns.{Shape, shapeless, shapeOf, shapeAt}
 use Rattle.algebra.proofs.Lists.Every.{every-head, every-tail, every-map}

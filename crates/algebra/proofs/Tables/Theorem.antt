@@ -1,19 +1,19 @@
 -- The rewriting of a well-formed plan has the plan's rows, in the same order, for every database.
 use mathlib.Core.Path.{_∙_, _≡_, ap, fun-ext, refl, subst, sym}
-use mathlib.Core.Bool.{Bool, cond, false, not, true, true≢false}
+use mathlib.Core.Bool.{Bool, cond, false, true, true≢false}
 use mathlib.Core.List.{List, [], _++_, _∷_, append-assoc, append-nil, map}
 use Prim.Native.Nat.{_+_, _<_, _≤_, pred, suc, ℕ}
 use native.Mathlib.Omega.{arith}
-use lib.Dec.{ltb, ltb→lt, nltb→le}
+use lib.Dec.{ltb}
 use lib.ListN.{List·getD-append, List·getD-map, getD, length, length-append}
 use lib.Seq.{getD-at}
+use borrow.Author.Tests.{ltb-true, ltb-false}
 use Rattle.algebra.specs.Lists.{Every, done, isEmpty, listFrom}
 use Rattle.algebra.specs.Plan.{widthOf, Node, compute, dependent, group, groupjoin, join, project, scan, select}
 use Rattle.algebra.specs.Meaning.{Database, Result, answer, empty, nodeResult, resultOf}
 use Rattle.algebra.specs.Columns.{Shape, shapeAt, shapeOf, shapeless}
 use Rattle.algebra.specs.Rewriting.{Piece, Placed, State, addPiece, closedNode, closedPut, missing, openUnder, pieceAt, rewritten, step, steps}
 use Rattle.algebra.specs.Statements.{Fine, FineFrom, Plain, WellFormed, Wide}
-use Rattle.algebra.proofs.Lists.Tests.{true-T}
 use Rattle.algebra.proofs.Lists.Keep.{map-append}
 use Rattle.algebra.proofs.Lists.Entries.{entries-related, entries-snoc, entry-before, entry-last}
 use Rattle.algebra.proofs.Tables.Agreement.{Respects, results-respect, node-agree}
@@ -56,10 +56,10 @@ module _ (widths : List ℕ) (db : Database) where
 
       split : (i : ℕ) (b : Bool) → ltb i (length ns) ≡ b → i < length ns + 1 → Good widths db (x .out) (getD (s .pieces ++ (p ∷ [])) i missing) (resultOf widths db (ns ++ (n ∷ [])) i)
       split i true t h =
-          let q : i < length ns = ltb→lt i (length ns) (true-T (ltb i (length ns)) t) in
+          let q : i < length ns = ltb-true i (length ns) t in
           rw (List·getD-append (s .pieces) (p ∷ []) missing i (omega (arith, v .count)), entry-before empty (nodeResult widths db) ns (n ∷ []) i q) (good-extends widths db ex (v .good i q))
       split i false t h =
-          let q : length ns ≤ i = nltb→le i (length ns) (true-T (not (ltb i (length ns))) (ap not t)) in
+          let q : length ns ≤ i = ltb-false i (length ns) t in
           let j : i ≡ length ns = omega arith in
           rw (j, here, entry-last empty (nodeResult widths db) ns n) g
 

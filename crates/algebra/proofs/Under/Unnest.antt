@@ -1,5 +1,5 @@
 -- A dependent join whose right side reads its left row: the join of the left side with the right side under a new domain.
-use mathlib.Core.Path.{_∙_, _≡_}
+use mathlib.Core.Path.{_∙_, _≡_, refl}
 use mathlib.Core.Bool.{Bool, _&&_, true}
 use mathlib.Core.List.{List, [], _++_, _∷_, map}
 use Prim.Native.Nat.{_+_, _<_, suc, zero, ℕ}
@@ -13,7 +13,7 @@ use Rattle.algebra.specs.Operators.{Outer, grouped, joinRows, passes, pi
 use Rattle.algebra.specs.Columns.{Column, conjunctReads, past, pastOne}
 use Rattle.algebra.specs.Domains.{Domain, below, domainKeys, innerDomain, match, moveConjunct, shiftBoth, span, spot}
 use Rattle.algebra.specs.Statements.{InLeft, Wide}
-use Rattle.algebra.proofs.Lists.Tests.{eqb-true}
+use borrow.Author.Tests.{eq-eqb}
 use Rattle.algebra.proofs.Lists.Every.{any-self, every-both, every-head, every-keep, every-map, every-uneach, every-unkeep}
 use Rattle.algebra.proofs.Lists.Keep.{map-cong, map-map}
 use Rattle.algebra.proofs.Lists.Distinct.{Once}
@@ -49,7 +49,7 @@ module _ (D : Domain) (o : Outer) (k : Row) (lk : length k ≡ D .width) (wl : �
   -- the row of the new domain agrees with the left row (the && outer) rows
   agrees-inner : (g : ℕ) (l : Row) → length l ≡ wl → Every (λ c. InLeft wl (c .level) (c .position)) reads → Agrees D o k (past reads)
       → Agrees (innerDomain D wl reads g) (l ∷ o) (picked ks (k ++ l)) reads
-  agrees-inner g l ll il ag = every-map one (every-both (every-both il (every-uneach _ reads ag)) (any-self (λ c e. eqb (spot D (c .level) (c .position)) (spot D (e .level) (e .position))) (λ c. eqb-true (spot D (c .level) (c .position))) reads))
+  agrees-inner g l ll il ag = every-map one (every-both (every-both il (every-uneach _ reads ag)) (any-self (λ c e. eqb (spot D (c .level) (c .position)) (spot D (e .level) (e .position))) (λ c. eq-eqb (spot D (c .level) (c .position)) (spot D (c .level) (c .position)) refl) reads))
     where
       one : (c : Column) → ((InLeft wl (c .level) (c .position) × Every (Fits D o k) (pastOne (c .level) (c .position))) × (wanted (spot D (c .level) (c .position)) ≡ true))
           → Fits (innerDomain D wl reads g) (l ∷ o) (picked ks (k ++ l)) c
