@@ -5,3 +5,4 @@ pub mod Entries
 pub mod Same
 pub mod Distinct
 pub mod Sums
+pub mod Standing

@@ -7,3 +7,4 @@ pub mod Placing
 pub mod Nodes
 pub mod Theorem
 pub mod Growth
+pub mod Used

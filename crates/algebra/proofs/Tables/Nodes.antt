@@ -33,7 +33,7 @@ grouped-some : (js : List ℕ) (b : ℕ) (bs : List ℕ) (gs : List Aggregate) (
 grouped-some [] b bs gs rs = refl
 grouped-some (j ∷ js) b bs gs rs = refl
 
-joinWidth-under : (k : Kind) (d l r : ℕ) → joinWidth k (d + l) r ≡ d + joinWidth k l r
+pub joinWidth-under : (k : Kind) (d l r : ℕ) → joinWidth k (d + l) r ≡ d + joinWidth k l r
 joinWidth-under inner d l r = omega arith
 joinWidth-under semi d l r = refl
 joinWidth-under anti d l r = refl

@@ -1,0 +1,2 @@
+-- What the answers of the C interface say.
+pub mod Says

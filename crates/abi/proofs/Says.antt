@@ -1,0 +1,18 @@
+-- An answer says what the verdict says.
+use mathlib.Core.Path.{_≡_, sym, ap, _∙_}
+use Rattle.plan.specs.declared.Refusal.{Refusal}
+use Rattle.plan.specs.declared.Verdict.{Verdict}
+use Rattle.plan.specs.declared.Verdict.the-variants.{Accepted, Refused}
+use Rattle.plan.specs.Verdict as plan
+use Rattle.plan.specs.Answers.{refusalOf, answerOf}
+use Rattle.abi.specs.declared.Answer.{Answer}
+use Rattle.abi.specs.Answers.{Says}
+
+pub says-accepted : (a : Answer) (v : Verdict) (answer : plan.Answer) → v ≡ Accepted → answerOf v ≡ answer
+    → (a .number ≡ 0) × (a .node ≡ 0) × (a .count ≡ 0) → Says a answer 0
+says-accepted a v answer e q h =
+    rw (sym q, e) (record { number = h .0; node = h .1; total = h .2 })
+
+pub says-refused : (a : Answer) (v : Verdict) (r : Refusal) (answer : plan.Answer) → v ≡ Refused r → answerOf v ≡ answer → Says a (refusalOf r) 0
+    → Says a answer 0
+says-refused a v r answer e q h = rw (sym q, e) h

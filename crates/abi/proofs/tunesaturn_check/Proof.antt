@@ -1,0 +1,37 @@
+use Rattle.abi.proofs.Says.{says-accepted, says-refused}
+use borrow.Author.Needs.{needs}
+use Rattle.abi.proofs.tunesaturn_check.Statement.{statement}
+use Rattle.abi.proofs.tunesaturn_check.Tie as tie
+
+check-requires : tie.Need-check-requires
+check-requires c κs = search needs
+
+enum-told : tie.Need-enum-told
+enum-told c = search needs
+
+numbered-requires : tie.Need-numbered-requires
+numbered-requires c κs = search needs
+
+enum-known-v : tie.Need-enum-known-v
+enum-known-v c = search needs
+
+refused-requires : tie.Need-refused-requires
+refused-requires c κs = search needs
+
+returns : tie.Need-returns
+returns c = says-accepted _ _ _ (c .before .enum-told .given .1) (c .before .before .before .check .ensures) (c .numbered .ensures)
+
+returns-2 : tie.Need-returns-2
+returns-2 c = says-refused _ _ _ _ (c .before .before .v .given .1) (c .before .before .before .before .check .ensures) (c .refused .ensures)
+
+pub tunesaturn-check-spec : {M : Type 1} → statement M
+tunesaturn-check-spec =
+    tie.close
+    (tie.spec
+    check-requires
+    enum-told
+    numbered-requires
+    enum-known-v
+    refused-requires
+    returns
+    returns-2)

@@ -1,0 +1,24 @@
+-- The laws behind the check, by topic.
+pub mod Words
+pub mod Loops
+pub mod Header
+pub mod Terms
+pub mod Items
+pub mod Formed
+pub mod Malformed
+pub mod Uses
+pub mod Reach
+pub mod Widths
+pub mod Scope
+pub mod Columns
+pub mod Users
+pub mod Verdict
+pub mod Numbered
+pub mod Written
+pub mod Encoded
+pub mod Decoded
+pub mod Restored
+pub mod Rebuilt
+pub mod Fitting
+pub mod Whole
+pub mod Meets

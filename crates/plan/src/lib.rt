@@ -1,0 +1,92 @@
+// What the words of a plan table say, and the check of them.
+pub mod words; // each word by its name
+pub mod terms; // a term of an item, decoded
+mod header; // refusals 1 and 2
+mod items; // the items of a node
+mod malformed; // refusal 3
+mod uses; // refusal 4
+mod widths; // refusal 5
+mod reach; // refusal 6
+mod columns; // refusal 7
+
+use columns::first_missing;
+use columns::work_out_joins;
+use header::header_right;
+use header::limits_right;
+use malformed::malformed;
+use reach::first_open_twice;
+use reach::work_out_reaches;
+use uses::count_uses;
+use uses::first_unused;
+use widths::Widths;
+use widths::work_out_widths;
+ghost use mathlib.Core.Path.{_≡_};
+ghost use Rattle.plan.specs.Verdict.{verdict};
+ghost use Rattle.plan.specs.Answers.{answerOf};
+
+// The limits of a plan.
+pub struct Plan;
+
+impl Plan {
+    pub const TABLES: u32 = 16;
+
+    pub const NODES: u32 = 256;
+
+    pub const ITEMS: u32 = 2000;
+
+    pub const WIDTH: u32 = 64;
+}
+
+// Refusals 1 to 7, each with its node where it has one.
+pub enum Refusal {
+    Header,
+    Limits,
+    Malformed(u32),
+    Unused(u32),
+    TooWide(u32),
+    OpenTwice(u32),
+    NoColumn(u32),
+}
+
+pub enum Verdict {
+    Accepted,
+    Refused(Refusal),
+}
+
+// Any slice of words gets document 01's answer.
+pub fn check(words: &[u32]) -> Verdict
+    ensures { λ r. ⌜ answerOf r ≡ verdict (now (words .entry)) ⌝ }
+{
+    if !header_right(words) {
+        return Verdict::Refused(Refusal::Header);
+    }
+    if !limits_right(words) {
+        return Verdict::Refused(Refusal::Limits);
+    }
+    let count = words::nodes(words);
+    let node = malformed(words);
+    if node < count {
+        return Verdict::Refused(Refusal::Malformed(node));
+    }
+    let uses = count_uses(words);
+    let node = first_unused(words, &uses);
+    if node < count {
+        return Verdict::Refused(Refusal::Unused(node));
+    }
+    let widths = work_out_widths(words);
+    if widths.narrow < count {
+        return Verdict::Refused(Refusal::TooWide(widths.narrow));
+    }
+    let rows = widths.rows;
+    let reaches = work_out_reaches(words);
+    let node = first_open_twice(words, &uses, &reaches);
+    if node < count {
+        return Verdict::Refused(Refusal::OpenTwice(node));
+    }
+    let joins = work_out_joins(words, &reaches);
+    let node = first_missing(words, &rows, &joins);
+    if node < count {
+        return Verdict::Refused(Refusal::NoColumn(node));
+    }
+    Verdict::Accepted
+}
