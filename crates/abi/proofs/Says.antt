@@ -1,5 +1,6 @@
 -- An answer says what the verdict says.
-use mathlib.Core.Path.{_≡_, sym, ap, _∙_}
+use mathlib.Core.Path.{_≡_, sym, _∙_}
+use Prim.Native.Nat.{ℕ}
 use Rattle.plan.specs.declared.Refusal.{Refusal}
 use Rattle.plan.specs.declared.Verdict.{Verdict}
 use Rattle.plan.specs.declared.Verdict.the-variants.{Accepted, Refused}
@@ -13,6 +14,6 @@ pub says-accepted : (a : Answer) (v : Verdict) (answer : plan.Answer) → v ≡ 
 says-accepted a v answer e q h =
     rw (sym q, e) (record { number = h .0; node = h .1; total = h .2 })
 
-pub says-refused : (a : Answer) (v : Verdict) (r : Refusal) (answer : plan.Answer) → v ≡ Refused r → answerOf v ≡ answer → Says a (refusalOf r) 0
-    → Says a answer 0
-says-refused a v r answer e q h = rw (sym q, e) h
+pub says-refused : (a : Answer) (v : Verdict) (r : Refusal) (answer : plan.Answer) → v ≡ Refused r → answerOf v ≡ answer
+    → (number node : ℕ) → number ≡ refusalOf r .number → node ≡ refusalOf r .node → (a .number ≡ number) × (a .node ≡ node) × (a .count ≡ 0) → Says a answer 0
+says-refused a v r answer e q number node f g h = rw (sym q, e) (record { number = h .0 ∙ f; node = h .1 ∙ g; total = h .2 })

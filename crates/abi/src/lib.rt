@@ -1,10 +1,8 @@
 // The C interface: each function answers a number of refusal, its node, and a count.
-use plan::Refusal;
 use plan::Verdict;
 use plan::check;
 ghost use mathlib.Core.Path.{_≡_};
 ghost use Rattle.plan.specs.Verdict.{verdict};
-ghost use Rattle.plan.specs.Answers.{refusalOf};
 ghost use Rattle.abi.specs.Answers.{Says};
 
 #[repr(C)]
@@ -12,21 +10,6 @@ pub struct Answer {
     pub number: u32,
     pub node: u32,
     pub count: u64,
-}
-
-// A refusal with the number and the node that it has.
-fn refused(r: Refusal) -> Answer
-    ensures { λ a. ⌜ Says a (refusalOf r) 0 ⌝ }
-{
-    match r {
-        Refusal::Header => numbered(1, 0),
-        Refusal::Limits => numbered(2, 0),
-        Refusal::Malformed(n) => numbered(3, n),
-        Refusal::Unused(n) => numbered(4, n),
-        Refusal::TooWide(n) => numbered(5, n),
-        Refusal::OpenTwice(n) => numbered(6, n),
-        Refusal::NoColumn(n) => numbered(7, n),
-    }
 }
 
 fn numbered(number: u32, node: u32) -> Answer
@@ -47,6 +30,6 @@ pub extern "C" fn tunesaturn_check(words: &[u32]) -> Answer
     let v = check(words);
     match v {
         Verdict::Accepted => numbered(0, 0),
-        Verdict::Refused(r) => refused(r),
+        Verdict::Refused(r) => numbered(r.number(), r.node()),
     }
 }

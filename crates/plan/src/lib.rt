@@ -2,11 +2,11 @@
 pub mod words; // each word by its name
 pub mod terms; // a term of an item, decoded
 mod header; // refusals 1 and 2
-mod items; // the items of a node
+pub mod items; // the items of a node
 mod malformed; // refusal 3
 mod uses; // refusal 4
-mod widths; // refusal 5
-mod reach; // refusal 6
+pub mod widths; // refusal 5
+pub mod reach; // refusal 6
 mod columns; // refusal 7
 
 use columns::first_missing;
@@ -22,7 +22,7 @@ use widths::Widths;
 use widths::work_out_widths;
 ghost use mathlib.Core.Path.{_≡_};
 ghost use Rattle.plan.specs.Verdict.{verdict};
-ghost use Rattle.plan.specs.Answers.{answerOf};
+ghost use Rattle.plan.specs.Answers.{refusalOf, answerOf};
 
 // The limits of a plan.
 pub struct Plan;
@@ -46,6 +46,38 @@ pub enum Refusal {
     TooWide(u32),
     OpenTwice(u32),
     NoColumn(u32),
+}
+
+impl Refusal {
+    // The number of refusal.
+    pub fn number(self) -> u32
+        ensures { λ r. ⌜ r ≡ refusalOf self .number ⌝ }
+    {
+        match self {
+            Refusal::Header => 1,
+            Refusal::Limits => 2,
+            Refusal::Malformed(_) => 3,
+            Refusal::Unused(_) => 4,
+            Refusal::TooWide(_) => 5,
+            Refusal::OpenTwice(_) => 6,
+            Refusal::NoColumn(_) => 7,
+        }
+    }
+
+    // The node that it names, 0 where it names none.
+    pub fn node(self) -> u32
+        ensures { λ r. ⌜ r ≡ refusalOf self .node ⌝ }
+    {
+        match self {
+            Refusal::Header => 0,
+            Refusal::Limits => 0,
+            Refusal::Malformed(n) => n,
+            Refusal::Unused(n) => n,
+            Refusal::TooWide(n) => n,
+            Refusal::OpenTwice(n) => n,
+            Refusal::NoColumn(n) => n,
+        }
+    }
 }
 
 pub enum Verdict {

@@ -1,0 +1,2 @@
+-- Words filled in from the front.
+pub mod Laws

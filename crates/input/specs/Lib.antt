@@ -1,0 +1,2 @@
+-- Words from bytes.
+pub mod Bytes
