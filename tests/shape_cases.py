@@ -8,7 +8,7 @@ UNUSED_NODES = [
     (4, 1, "node unused", plan([1], [scan(0), scan(0), select(0)])),
     (4, 0, "first node unused", plan([1], [scan(0), scan(0), select(1)])),
     (4, 1, "three nodes unused", plan([1], [scan(0), scan(0), scan(0), scan(0), select(0)])),
-    (4, 2, "node below an unused node", plan([1], [scan(0), scan(0), select(0), select(1)])),
+    (4, 2, "unused node over a used one", plan([1], [scan(0), scan(0), select(0), select(1)])),
     (4, 0, "two scans of one table", plan([1], [scan(0), scan(0)])),
     (0, 0, "node used as right input alone", plan([1], [scan(0), scan(0), join(SEMI, 0, 1)])),
     (0, 0, "closed node used three times", plan([1], [scan(0), join(INNER, 0, 0), join(INNER, 1, 0)])),
@@ -65,6 +65,7 @@ WIDTHS = [
     (5, 7, "rows that double 255 times", doubled(INNER)),
     (0, 0, "256 nodes with 2^255 paths", doubled(SEMI)),
 ]
+
 
 # Node 2 is open: it reads node 0, the left row of the dependent join that stands around the nodes as the root.
 def around(*nodes):
