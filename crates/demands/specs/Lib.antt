@@ -1,0 +1,2 @@
+-- The demands of the mission, over words.
+pub mod Rewriting

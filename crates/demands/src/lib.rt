@@ -1,0 +1,1 @@
+// The demands of the mission: definitions and proofs only.

@@ -1,0 +1,23 @@
+-- The laws behind the rewriter, by topic.
+pub mod Sets
+pub mod Domains
+pub mod Pages
+pub mod Writer
+pub mod Moved
+pub mod Reads
+pub mod Keys
+pub mod Columns
+pub mod ColumnsWritten
+pub mod ColumnsUnder
+pub mod ColumnsThere
+pub mod Shaped
+pub mod Sensible
+pub mod SensibleWritten
+pub mod Local
+pub mod Unchanged
+pub mod Small
+pub mod Sorted
+pub mod Rules
+pub mod Emitted
+pub mod Joined
+pub mod Finish

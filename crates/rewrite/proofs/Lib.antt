@@ -1,0 +1,3 @@
+-- The laws; the statements stand in Accepted.
+pub mod Laws
+pub mod Accepted

@@ -1,0 +1,22 @@
+use mathlib.Core.List.{[], map}
+use Rattle.algebra.specs.Plan.{group}
+use Rattle.plan.specs.Encoding.{positionWords}
+use Rattle.rewrite.specs.Sets.{members}
+use Rattle.rewrite.proofs.Laws.Finish.{grows, domain-written}
+use borrow.Author.Needs.{needs}
+use Rattle.rewrite.proofs.finish.domain_node.Statement.{statement}
+use Rattle.rewrite.proofs.finish.domain_node.Tie as tie
+
+set-keys-requires : tie.Need-set-keys-requires
+set-keys-requires c κs = search needs
+
+push-node-requires : tie.Need-push-node-requires
+push-node-requires c κs = search needs
+
+returns : tie.Need-returns
+returns c =
+    let a = c .before .before .before .before .before .args in
+    grows (map (positionWords 11) (members (a .set))) (group (members (a .set)) [] (a .i)) (c .before .before .before .set-keys .ensures) (c .push-node .ensures) (domain-written (members (a .set)) (a .i))
+
+pub domain-node-spec : {M : Type 1} → statement M
+domain-node-spec = tie.close (tie.spec set-keys-requires push-node-requires returns)

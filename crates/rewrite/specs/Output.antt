@@ -1,0 +1,15 @@
+-- The new plan's words in the output.
+use mathlib.Core.List.{List, _∷_, _++_}
+use Prim.Native.Nat.{ℕ, _+_, _*_}
+use lib.ListN.{take, drop}
+use Rattle.plan.specs.Words.{tables}
+
+-- "Total is 8+T+6N+7I"
+abbrev pub total : ℕ → ℕ → ℕ → ℕ
+total t n i = 8 + t + 6 * n + 7 * i
+
+-- header, the widths of ws, the first n nodes and the first i items of two lists of words
+unfoldable pub table : List ℕ → ℕ → ℕ → List ℕ → List ℕ → List ℕ
+table ws n i nodes items =
+    let t = tables ws in
+    total t n i ∷ t ∷ 8 ∷ n ∷ (8 + t) ∷ i ∷ (8 + t + 6 * n) ∷ 0 ∷ (take t (drop 8 ws) ++ (take (6 * n) nodes ++ take (7 * i) items))
