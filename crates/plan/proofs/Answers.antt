@@ -19,9 +19,11 @@ refusalFrom a =
     (cond (eqb (a .number) 5) (TooWide (a .node))
     (cond (eqb (a .number) 6) (OpenTwice (a .node)) (NoColumn (a .node)))))))
 
+-- the verdict that they name
 abbrev verdictFrom : Answer → Verdict
 verdictFrom a = cond (eqb (a .number) 0) Accepted (Refused (refusalFrom a))
 
+-- a verdict is the one that its answer names
 named : (v : Verdict) → verdictFrom (answerOf v) ≡ v
 named Accepted = refl
 named (Refused Header) = refl
@@ -32,5 +34,6 @@ named (Refused (TooWide n)) = refl
 named (Refused (OpenTwice n)) = refl
 named (Refused (NoColumn n)) = refl
 
+-- verdicts with the same answer are equal
 pub one-answer : (v w : Verdict) → answerOf v ≡ answerOf w → v ≡ w
 one-answer v w e = sym (named v) ∙ ap verdictFrom e ∙ named w

@@ -10,6 +10,7 @@ pub mod Uses
 pub mod Reach
 pub mod Widths
 pub mod Scope
+pub mod Levels
 pub mod Columns
 pub mod Users
 pub mod Verdict

@@ -162,6 +162,7 @@ module _ (widths : List ℕ) where
 -- ---- an accepted plan is well formed
 
 module _ (ws : List ℕ) (f : Formed ws) (once : OpenOnce (widthsOf ws) (nodesOf ws)) (columns : (n : ℕ) → n < nodes ws → columnsRight ws n ≡ true) where
+  -- the shapes of the nodes
   abbrev shapes : ℕ → Shape
   shapes = shapeAt (widthsOf ws) (nodesOf ws)
 
@@ -192,9 +193,11 @@ module _ (ws : List ℕ) (f : Formed ws) (once : OpenOnce (widthsOf ws) (nodesOf
   inside-at (suc bound) n l h =
       rw (shape-of ws f n h) (reads-inside shapes (scopeOf ws n) (nodeAt ws n) (columns n h) (sides-at n h (λ m g. inside-at bound m (omega arith) (omega arith))))
 
+  -- the same without a bound
   all-inside : (n : ℕ) → n < nodes ws → Inside (scopeOf ws n) (shapes n .reads)
   all-inside n h = inside-at (suc n) n (omega arith) h
 
+  -- every node may stand behind those before it
   node-fine : (n : ℕ) → n < nodes ws → Fine shapes n (nodeAt ws n)
   node-fine n h = fine-node shapes (scopeOf ws n) n (nodeAt ws n) (inputs-below ws f n h) (sides-at n h (λ m g. all-inside m (omega arith)))
 
@@ -202,6 +205,7 @@ module _ (ws : List ℕ) (f : Formed ws) (once : OpenOnce (widthsOf ws) (nodesOf
   root-closed : (m : ℕ) → suc m ≡ nodes ws → closed (shapes m) ≡ true
   root-closed m e = none-inside (shapes m .reads) (rw (scope-of-root ws f m e) at (all-inside m (omega arith)))
 
+  -- the plan is well formed
   well-formed : WellFormed (widthsOf ws) (nodesOf ws)
   well-formed =
       let some = limited ws (f .sized) .nodes-some in
@@ -225,6 +229,7 @@ no-fault k fault bound rest h e =
     let r = not-refused k (lowest fault bound) (ltb (lowest fault bound) bound) rest h e in
     (lowest-not fault bound (ltb-false (lowest fault bound) bound (r .0)), r .1)
 
+-- where the first holds the second does not
 and-not : (a b : Bool) → (a && b) ≡ false → a ≡ true → b ≡ false
 and-not a b e h = rw h at e
 

@@ -1,51 +1,53 @@
 -- The columns that the terms and items of a node name.
 use mathlib.Core.Path.{_≡_, refl, sym, _∙_}
-use mathlib.Core.Logic.{_⊎_, inl, inr}
 use mathlib.Core.Bool.{Bool, true, false, not, cond, _&&_, and-true, and-false, and-assoc}
-use mathlib.Core.List.{List, [], _∷_, map}
+use mathlib.Core.List.{List, map}
 use Prim.Native.Nat.{ℕ, _+_, _≤_, _<_}
 use native.Mathlib.Omega.{arith}
 use lib.IntN.{ℤ}
 use lib.Dec.{leb, ltb, eqb}
-use lib.ListN.{length, getD, take, drop, take-append-drop}
+use lib.ListN.{length, getD}
 use borrow.Author.Tests.{eqb-true, le-leb, lt-leb, eq-eqb, ne-eqb, not-true, not-false}
 use Rattle.algebra.specs.Plan as algebra
 use Rattle.algebra.specs.Plan.{Kind, copy, add, subtract, count, sum, minimum, maximum}
-use Rattle.algebra.specs.Lists.{keep, all, upto, isEmpty, Every, done, more}
+use Rattle.algebra.specs.Lists.{keep, all, isEmpty, Every, done, more}
 use Rattle.algebra.proofs.Lists.Keep.{keep-all}
-use Rattle.algebra.proofs.Lists.Every.{every-map, every-append}
+use Rattle.algebra.proofs.Lists.Every.{every-map}
 use Rattle.algebra.proofs.Lists.Same.{and-left, and-right}
 use Rattle.plan.specs.declared.terms.Term.{Term}
 use Rattle.plan.specs.declared.terms.Term.the-variants.{Local, Outer, Constant, Null}
-use Rattle.plan.specs.Words.{Item, nodes, operator, left, right, kind, firstItem, itemCount, itemAt, itemsFrom, itemsOf}
+use Rattle.plan.specs.Words.{Item, nodes, operator, left, right, kind, firstItem, itemCount, itemsOf}
 use Rattle.plan.specs.Items.{between, isConjunct, isComputation, isKey, isOutput, isAggregate, positionOf, termOf, conjunctOf, computationOf, aggregateOf, conjunctsIn, keysIn, aggregatesIn, conjunctRight, computationRight, keyRight, outputRight, aggregateRight}
 use Rattle.plan.specs.Plan.{nodeFor, kindOf, computationIn}
 use Rattle.plan.specs.Terms.{meant}
-use Rattle.plan.specs.Verdict.{lowest, termThere, conjunctThere, computationThere, aggregateThere, columnsThere, inFront, itemsRight, hasRight, widthAt, scopeOf, columnsRight}
+use Rattle.plan.specs.Verdict.{termThere, conjunctThere, computationThere, aggregateThere, columnsThere, inFront, itemsRight, hasRight, widthAt, scopeOf, columnsRight}
 use Rattle.plan.specs.Promise.{Formed}
 use Rattle.plan.specs.Passes.{Widths, itemThere}
-use Rattle.plan.proofs.Laws.Loops.{none-more, lowest-found, lowest-end, all-more, all-fails, all-end}
-use Rattle.plan.proofs.Laws.Formed.{between-low, between-high, by-operator, limited, facts-at}
-use Rattle.plan.proofs.Laws.Scope.{left-below, right-below}
+use Rattle.plan.proofs.Laws.Loops.{all-map, by-one}
+use Rattle.plan.proofs.Laws.Numbered.{every-all}
+use Rattle.plan.proofs.Laws.Formed.{between-low, between-high, by-operator, limited, facts-at, left-below, right-below}
+use Rattle.plan.proofs.Laws.Reach.{front-every}
+use Rattle.plan.proofs.Laws.Restored.{conjunct-not-aggregate, key-not-aggregate, aggregate-not-conjunct, aggregate-not-key}
 
 -- ---- a term
 
 module _ (scope : List ℕ) (w : ℕ) (t : Term) where
-  pub term-local : (p : ℕ) → t ≡ Local p → ltb p w ≡ termThere scope w (meant t)
+  -- a term of each sort asks for its column, if it has one
+  pub local-there : (p : ℕ) → t ≡ Local p → ltb p w ≡ termThere scope w (meant t)
   unfolding termThere
-  term-local p e = rw e
+  local-there p e = rw e
 
-  pub term-outer : (l p u : ℕ) → t ≡ Outer l p → u ≡ getD scope l 0 → ltb p u ≡ termThere scope w (meant t)
+  pub outer-there : (l p u : ℕ) → t ≡ Outer l p → u ≡ getD scope l 0 → ltb p u ≡ termThere scope w (meant t)
   unfolding termThere
-  term-outer l p u e d = rw (e, d)
+  outer-there l p u e d = rw (e, d)
 
-  pub term-constant : (z : ℤ) → t ≡ Constant z → true ≡ termThere scope w (meant t)
+  pub constant-there : (z : ℤ) → t ≡ Constant z → true ≡ termThere scope w (meant t)
   unfolding termThere
-  term-constant z e = rw e
+  constant-there z e = rw e
 
-  pub term-null : t ≡ Null → true ≡ termThere scope w (meant t)
+  pub null-there : t ≡ Null → true ≡ termThere scope w (meant t)
   unfolding termThere
-  term-null e = rw e
+  null-there e = rw e
 
 -- ---- an item
 
@@ -71,6 +73,7 @@ module _ (scope : List ℕ) (w v : ℕ) (x : Item) (t : ℕ) (e : t ≡ x .tag) 
     pub item-both : between 11 16 t ≡ false → (t ≡ 8 → ⊥) → not r ≡ false → (u₂ : algebra.Term) (s : Bool) → u₂ ≡ termOf (x .second) → s ≡ termThere scope w u₂ → s ≡ itemThere scope w v x
     item-both b n h u₂ s z c = c ∙ rw (z, sym e, b, sym q, sym d, not-false r h, ne-eqb t 8 n)
 
+-- a tag below 11 or above 16 names no position
 pub outside-low : (t : ℕ) → t < 11 → between 11 16 t ≡ false
 outside-low t h = rw (lt-leb 11 t h)
 
@@ -79,47 +82,18 @@ outside-high t h = rw (lt-leb t 16 (omega arith), and-false (leb 11 t))
 
 -- ---- the items of a node
 
-module _ (ws : List ℕ) (n w v a : ℕ) (e : a ≡ firstItem ws n) where
-  pub items-more : (i : ℕ) (r : Bool) → all (itemThere (scopeOf ws n) w v) (itemsFrom ws (firstItem ws n) i) ≡ true → r ≡ itemThere (scopeOf ws n) w v (itemAt ws (a + i)) → not r ≡ false
-      → all (itemThere (scopeOf ws n) w v) (itemsFrom ws (firstItem ws n) (i + 1)) ≡ true
-  items-more i r before d h = all-more (itemThere (scopeOf ws n) w v) (λ k. itemAt ws (firstItem ws n + k)) i before (rw (sym e) (sym d ∙ not-false r h))
-
-  pub items-fail : (i many : ℕ) (r : Bool) → r ≡ itemThere (scopeOf ws n) w v (itemAt ws (a + i)) → not r ≡ true → i < many → many ≡ itemCount ws n
-      → false ≡ all (itemThere (scopeOf ws n) w v) (itemsOf ws n)
-  items-fail i many r d h l q = all-fails (itemThere (scopeOf ws n) w v) (λ k. itemAt ws (firstItem ws n + k)) i (itemCount ws n) (rw (sym e) (sym d ∙ not-true r h)) (rw q at l)
-
-  pub items-end : (i many : ℕ) → all (itemThere (scopeOf ws n) w v) (itemsFrom ws (firstItem ws n) i) ≡ true → many ≤ i → i ≤ many → many ≡ itemCount ws n
-      → true ≡ all (itemThere (scopeOf ws n) w v) (itemsOf ws n)
-  items-end i many h g l q = all-end (itemThere (scopeOf ws n) w v) (λ k. itemAt ws (firstItem ws n + k)) i (itemCount ws n) h (rw q at g) (rw q at l)
-
 -- the place of an item of node n
 pub item-place : (ws : List ℕ) → Formed ws → (n a many i : ℕ) → n < nodes ws → a ≡ firstItem ws n → many ≡ itemCount ws n → i < many → a + i < 2000
 item-place ws f n a many i h e d l = omega (arith, facts-at ws f n h .within, limited ws (f .sized) .items-few)
 
 -- ---- items by their sorts
 
-all-every : {A : Type 0} (p : A → Bool) (xs : List A) → all p xs ≡ true → Every (λ x. p x ≡ true) xs
-all-every p [] e = done
-all-every p (x ∷ xs) e = more (and-left (p x) _ e) (all-every p xs (and-right (p x) _ e))
-
--- items of one sort, then of another
-front-every : (p q : Item → Bool) (m : ℕ) (xs : List Item) → inFront p q m xs ≡ true → Every (λ x. (p x ≡ true) ⊎ (q x ≡ true)) xs
-front-every p q m xs e =
-    rw (take-append-drop m xs) at
-    (every-append
-    (every-map (λ x (h : p x ≡ true). inl h) (all-every p (take m xs) (and-left (all p (take m xs)) _ e)))
-    (every-map (λ x (h : q x ≡ true). inr h) (all-every q (drop m xs) (and-right (all p (take m xs)) _ e))))
-
--- what is worked out of each item passes as the item does
-map-all : {B : Type 0} (f : Item → B) (passes : B → Bool) (there : Item → Bool) {xs : List Item} → Every (λ x. passes (f x) ≡ there x) xs → all passes (map f xs) ≡ all there xs
-map-all f passes there done = refl
-map-all f passes there (more h t) = rw (h, map-all f passes there t)
-
 -- an item of the first of two sorts, or of the second
 data OfTwo (is js there first second : Item → Bool) (x : Item) : Type 0 where
   of-first : is x ≡ true → js x ≡ false → first x ≡ there x → OfTwo is js there first second x
   of-second : is x ≡ false → js x ≡ true → second x ≡ there x → OfTwo is js there first second x
 
+-- the first two of three tests in the other order
 and-swap : (a b c : Bool) → (a && (b && c)) ≡ (b && (a && c))
 and-swap true b c = refl
 and-swap false b c = sym (and-false b)
@@ -180,48 +154,49 @@ module _ (scope : List ℕ) (w v : ℕ) (x : Item) where
 -- ---- the columns of a node
 
 module _ (scope : List ℕ) (w v : ℕ) (xs : List Item) where
+  -- conjuncts, or output columns, alone
   conjuncts-there : all conjunctRight xs ≡ true → all (conjunctThere scope w) (conjunctsIn xs) ≡ all (itemThere scope w v) xs
   conjuncts-there e =
-      let t : Every (λ x. isConjunct x ≡ true) xs = every-map (λ x (h : conjunctRight x ≡ true). and-left (isConjunct x) _ h) (all-every conjunctRight xs e) in
-      rw (keep-all isConjunct t) (map-all conjunctOf (conjunctThere scope w) (itemThere scope w v) (every-map (λ x (c : isConjunct x ≡ true). conjunct-there scope w v x c) t))
+      let t : Every (λ x. isConjunct x ≡ true) xs = every-map (λ x (h : conjunctRight x ≡ true). and-left (isConjunct x) _ h) (every-all conjunctRight xs e) in
+      rw (keep-all isConjunct t) (all-map conjunctOf (conjunctThere scope w) (itemThere scope w v) (every-map (λ x (c : isConjunct x ≡ true). conjunct-there scope w v x c) t))
 
   outputs-there : all outputRight xs ≡ true → all (λ p. ltb p v) (map positionOf xs) ≡ all (itemThere scope w v) xs
-  outputs-there e = map-all positionOf (λ p. ltb p v) (itemThere scope w v) (every-map output (all-every outputRight xs e))
+  outputs-there e = all-map positionOf (λ p. ltb p v) (itemThere scope w v) (every-map output (every-all outputRight xs e))
     where
       output : (x : Item) → outputRight x ≡ true → ltb (positionOf x) v ≡ itemThere scope w v x
       output x h = let g : x .tag ≡ 12 = eqb-true (x .tag) 12 (and-left (isOutput x) _ h) in position-there scope w v x (omega arith) (omega arith)
 
+  -- the one computation of a node
   computation-alone : (eqb (length xs) 1 && all computationRight xs) ≡ true → computationThere scope w (computationIn xs) ≡ all (itemThere scope w v) xs
-  computation-alone e = go xs (eqb-true (length xs) 1 (and-left (eqb (length xs) 1) _ e)) (and-right (eqb (length xs) 1) _ e)
-    where
-      go : (ys : List Item) → length ys ≡ 1 → all computationRight ys ≡ true → computationThere scope w (computationIn ys) ≡ all (itemThere scope w v) ys
-      go [] n h = absurd (omega arith)
-      go (x ∷ []) n h = computation-there scope w v x (and-left (isComputation x) _ (and-left (computationRight x) _ h)) ∙ sym (and-true (itemThere scope w v x))
-      go (x ∷ y ∷ ys) n h = absurd (omega arith)
+  computation-alone e =
+      by-one (λ ys. all computationRight ys ≡ true → computationThere scope w (computationIn ys) ≡ all (itemThere scope w v) ys)
+      (λ x h. computation-there scope w v x (and-left (isComputation x) _ (and-left (computationRight x) _ h)) ∙ sym (and-true (itemThere scope w v x))) xs
+      (eqb-true (length xs) 1 (and-left (eqb (length xs) 1) _ e)) (and-right (eqb (length xs) 1) _ e)
 
-  aggregate-second : (is first : Item → Bool) (x : Item) → (13 ≤ x .tag → is x ≡ false) → aggregateRight x ≡ true → OfTwo is isAggregate (itemThere scope w v) first (λ y. aggregateThere v (aggregateOf y)) x
+  -- an aggregate as an item of the second of two sorts
+  aggregate-second : (is first : Item → Bool) (x : Item) → is x ≡ false → aggregateRight x ≡ true → OfTwo is isAggregate (itemThere scope w v) first (λ y. aggregateThere v (aggregateOf y)) x
   aggregate-second is first x n h =
       let c : isAggregate x ≡ true = and-left (isAggregate x) _ h in
-      of-second (n (between-low 13 16 (x .tag) c)) c (aggregate-there scope w v x c)
+      of-second n c (aggregate-there scope w v x c)
 
+  -- keys, then aggregates
   group-there : (m : ℕ) → inFront keyRight aggregateRight m xs ≡ true → (all (λ p. ltb p v) (keysIn xs) && all (aggregateThere v) (aggregatesIn xs)) ≡ all (itemThere scope w v) xs
-  group-there m e = sorts-all isKey isAggregate positionOf aggregateOf (λ p. ltb p v) (aggregateThere v) (itemThere scope w v) (every-map two (front-every keyRight aggregateRight m xs e))
+  group-there m e = sorts-all isKey isAggregate positionOf aggregateOf (λ p. ltb p v) (aggregateThere v) (itemThere scope w v) (front-every keyRight aggregateRight key (λ x h. aggregate-second isKey (λ y. ltb (positionOf y) v) x (aggregate-not-key x h) h) m xs e)
     where
-      two : (x : Item) → (keyRight x ≡ true) ⊎ (aggregateRight x ≡ true) → OfTwo isKey isAggregate (itemThere scope w v) (λ y. ltb (positionOf y) v) (λ y. aggregateThere v (aggregateOf y)) x
-      two x (inl h) =
+      key : (x : Item) → keyRight x ≡ true → OfTwo isKey isAggregate (itemThere scope w v) (λ y. ltb (positionOf y) v) (λ y. aggregateThere v (aggregateOf y)) x
+      key x h =
           let k : isKey x ≡ true = and-left (isKey x) _ h in
           let g : x .tag ≡ 11 = eqb-true (x .tag) 11 k in
-          of-first k (rw g) (position-there scope w v x (omega arith) (omega arith))
-      two x (inr h) = aggregate-second isKey (λ y. ltb (positionOf y) v) x (λ g. ne-eqb (x .tag) 11 (λ q. omega arith)) h
+          of-first k (key-not-aggregate x h) (position-there scope w v x (omega arith) (omega arith))
 
+  -- conjuncts, then aggregates
   groupjoin-there : (m : ℕ) → inFront conjunctRight aggregateRight m xs ≡ true → (all (conjunctThere scope w) (conjunctsIn xs) && all (aggregateThere v) (aggregatesIn xs)) ≡ all (itemThere scope w v) xs
-  groupjoin-there m e = sorts-all isConjunct isAggregate conjunctOf aggregateOf (conjunctThere scope w) (aggregateThere v) (itemThere scope w v) (every-map two (front-every conjunctRight aggregateRight m xs e))
+  groupjoin-there m e = sorts-all isConjunct isAggregate conjunctOf aggregateOf (conjunctThere scope w) (aggregateThere v) (itemThere scope w v) (front-every conjunctRight aggregateRight conjunct (λ x h. aggregate-second isConjunct (λ y. conjunctThere scope w (conjunctOf y)) x (aggregate-not-conjunct x h) h) m xs e)
     where
-      two : (x : Item) → (conjunctRight x ≡ true) ⊎ (aggregateRight x ≡ true) → OfTwo isConjunct isAggregate (itemThere scope w v) (λ y. conjunctThere scope w (conjunctOf y)) (λ y. aggregateThere v (aggregateOf y)) x
-      two x (inl h) =
+      conjunct : (x : Item) → conjunctRight x ≡ true → OfTwo isConjunct isAggregate (itemThere scope w v) (λ y. conjunctThere scope w (conjunctOf y)) (λ y. aggregateThere v (aggregateOf y)) x
+      conjunct x h =
           let k : isConjunct x ≡ true = and-left (isConjunct x) _ h in
-          of-first k (rw (lt-leb 13 (x .tag) (omega (arith, between-high 1 7 (x .tag) k)))) (conjunct-there scope w v x k)
-      two x (inr h) = aggregate-second isConjunct (λ y. conjunctThere scope w (conjunctOf y)) x (λ g. rw (lt-leb (x .tag) 7 (omega arith), and-false (leb 1 (x .tag)))) h
+          of-first k (conjunct-not-aggregate x h) (conjunct-there scope w v x k)
 
 -- by operator: conjuncts and computations over left then right, the other columns over the last input
 columns-for : (width : ℕ → ℕ) (scope : List ℕ) (l r : ℕ) (k : Kind) (xs : List Item) (o : ℕ) → 1 ≤ o → o ≤ 8 → itemsRight o xs ≡ true
@@ -242,6 +217,7 @@ columns-for width scope l r k xs =
     (conjuncts-there scope (width l + width r) (width r) xs)
 
 module _ (ws : List ℕ) (f : Formed ws) (n : ℕ) (h : n < nodes ws) (o : ℕ) (e : o ≡ operator ws n) where
+  -- the columns of node n by its words
   columns-at : columnsRight ws n
       ≡ cond (eqb (operator ws n) 1) true
       (cond (hasRight (operator ws n)) (all (itemThere (scopeOf ws n) (widthAt ws (left ws n) + widthAt ws (right ws n)) (widthAt ws (right ws n))) (itemsOf ws n))
@@ -251,31 +227,22 @@ module _ (ws : List ℕ) (f : Formed ws) (n : ℕ) (h : n < nodes ws) (o : ℕ) 
       let t = facts-at ws f n h in
       columns-for (widthAt ws) (scopeOf ws n) (left ws n) (right ws n) (kindOf (kind ws n)) (itemsOf ws n) (operator ws n) (t .low) (t .high) (t .sorts)
 
+  -- a scan names no column
   pub columns-scan : o ≡ 1 → true ≡ columnsRight ws n
   columns-scan q = sym (columns-at ∙ rw (eq-eqb (operator ws n) 1 (sym e ∙ q)))
 
   module _ (rows : List ℕ) (k : Widths ws rows) (q : o ≡ 1 → ⊥) (i w : ℕ) (d : i ≡ left ws n) (t : w ≡ i) (r : Bool) where
+    -- the table has the width of the left input
     left-width : getD rows w 0 ≡ widthAt ws (left ws n)
-    left-width = rw (t, d) (k (left ws n) (omega (arith, left-below ws f n h o i w e q d t)))
+    left-width = rw (t, d) (k (left ws n) (omega (arith, left-below ws f n h e q d t)))
 
+    -- a node with one input
     pub columns-one : hasRight o ≡ false → r ≡ all (itemThere (scopeOf ws n) (getD rows w 0) (getD rows w 0)) (itemsOf ws n) → r ≡ columnsRight ws n
     columns-one s a = a ∙ rw left-width (sym (columns-at ∙ rw (sym e, ne-eqb o 1 q, s)))
 
+    -- a node with two inputs
     pub columns-two : (j v : ℕ) → j ≡ right ws n → v ≡ j → hasRight o ≡ true
         → r ≡ all (itemThere (scopeOf ws n) (getD rows w 0 + getD rows v 0) (getD rows v 0)) (itemsOf ws n) → r ≡ columnsRight ws n
     columns-two j v c z s a =
-        let x : getD rows v 0 ≡ widthAt ws (right ws n) = rw (z, c) (k (right ws n) (omega (arith, right-below ws f n h o j v e s c z))) in
+        let x : getD rows v 0 ≡ widthAt ws (right ws n) = rw (z, c) (k (right ws n) (omega (arith, right-below ws f n h e s c z))) in
         a ∙ rw (left-width, x) (sym (columns-at ∙ rw (sym e, ne-eqb o 1 q, s)))
-
--- ---- the first node with a column that does not exist
-
-module _ (ws : List ℕ) (n many : ℕ) where
-  pub found-missing : (r : Bool) → keep (λ k. not (columnsRight ws k)) (upto n) ≡ [] → r ≡ columnsRight ws n → not r ≡ true → n < many → many ≡ nodes ws
-      → n ≡ lowest (λ k. not (columnsRight ws k)) (nodes ws)
-  found-missing r e d h l q = lowest-found (λ k. not (columnsRight ws k)) n (nodes ws) e (rw (sym d) h) (rw q at l)
-
-  pub none-missing : (r : Bool) → keep (λ k. not (columnsRight ws k)) (upto n) ≡ [] → r ≡ columnsRight ws n → not r ≡ false → keep (λ k. not (columnsRight ws k)) (upto (n + 1)) ≡ []
-  none-missing r e d h = none-more (λ k. not (columnsRight ws k)) n e (rw (sym d) h)
-
-  pub all-there : keep (λ k. not (columnsRight ws k)) (upto n) ≡ [] → many ≤ n → n ≤ many → many ≡ nodes ws → many ≡ lowest (λ k. not (columnsRight ws k)) (nodes ws)
-  all-there e g l q = q ∙ lowest-end (λ k. not (columnsRight ws k)) n (nodes ws) e (rw q at g) (rw q at l)

@@ -1,32 +1,28 @@
 -- What the items that a node is written as say: the node.
 use mathlib.Core.Path.{_≡_, refl, ap, _∙_}
 use mathlib.Core.Bool.{Bool, true, false}
-use mathlib.Core.List.{List, _++_, map, append-nil}
-use Prim.Native.Nat.{ℕ, _-_, _^_, _<_, _≤_}
+use mathlib.Core.List.{List, _++_, map}
+use Prim.Native.Nat.{ℕ, _-_, _^_}
 use native.Mathlib.Omega.{arith}
 use lib.IntN.{ℤ, pos, negsuc}
-use borrow.Author.Tests.{lt-ltb, le-ltb}
 use Rattle.algebra.specs.Lists.{keep, each, Every, done, more}
 use Rattle.algebra.specs.Value.{Test, equal, unequal, less, at-most, at-least, same}
 use Rattle.algebra.specs.Plan.{Term, column, outer, constant, nothing, Conjunct, Computation, copy, add, subtract, Aggregate, count, sum, minimum, maximum, Kind, inner, semi, anti, left-outer, Node, scan, select, compute, project, join, group, groupjoin, dependent}
 use Rattle.algebra.proofs.Lists.Every.{every-of, every-map, every-mapped, every-uneach}
-use Rattle.algebra.proofs.Lists.Keep.{keep-append, keep-all, keep-none, map-map, map-id}
+use Rattle.algebra.proofs.Lists.Keep.{keep-all, map-map, map-id}
 use Rattle.plan.specs.Words.{Item}
-use Rattle.plan.specs.Items.{between, isConjunct, isKey, isAggregate, signed, termOf, testOf, conjunctOf, computationOf, positionOf, aggregateOf, conjunctsIn}
+use Rattle.plan.specs.Items.{between, isConjunct, isKey, isAggregate, signed, termOf, testOf, conjunctOf, computationOf, positionOf, aggregateOf, conjunctsIn, aggregateRight}
 use Rattle.plan.specs.Plan.{kindOf, nodeFor}
 use Rattle.plan.specs.Encoding.{unsigned, testTag, kindWord, parts, StorableTerm, conjunctTerms, computationTerms, termsOf}
+use Rattle.plan.proofs.Laws.Loops.{keep-first, keep-second}
+use Rattle.plan.proofs.Laws.Header.{both, between-says, between-fails}
+use Rattle.plan.proofs.Laws.Terms.{signed-low, signed-high}
+use Rattle.plan.proofs.Laws.Restored as restored
 use Rattle.plan.proofs.Laws.Written.{threeOf, conjunctItem, computationItem, positionItem, aggregateItem, nodeItems}
 
 -- ---- constants
 
-pub signed-low : (x : ℕ) → x < 2 ^ 31 → signed x ≡ pos x
-unfolding signed
-signed-low x h = rw (lt-ltb x (2 ^ 31) h)
-
-pub signed-high : (x : ℕ) → 2 ^ 31 ≤ x → signed x ≡ negsuc (2 ^ 32 - 1 - x)
-unfolding signed
-signed-high x h = rw (le-ltb x (2 ^ 31) h)
-
+-- a constant is read as it was written
 constant-back : (z : ℤ) → StorableTerm (constant z) → signed (unsigned z) ≡ z
 constant-back (pos n) h = signed-low n h
 constant-back (negsuc n) h =
@@ -35,7 +31,8 @@ constant-back (negsuc n) h =
 
 -- ---- terms and tests
 
-pub term-back : (t : Term) → StorableTerm t → termOf (threeOf t) ≡ t
+-- a term, a test and a kind are read as they were written
+term-back : (t : Term) → StorableTerm t → termOf (threeOf t) ≡ t
 unfolding termOf
 term-back (column p) h = refl
 term-back (outer l p) h = refl
@@ -52,7 +49,7 @@ test-back Test.more = refl
 test-back at-least = refl
 test-back same = refl
 
-pub kind-back : (k : Kind) → kindOf (kindWord k) ≡ k
+kind-back : (k : Kind) → kindOf (kindWord k) ≡ k
 unfolding kindOf
 kind-back inner = refl
 kind-back semi = refl
@@ -61,6 +58,7 @@ kind-back left-outer = refl
 
 -- ---- an item
 
+-- a conjunct, a computation and an aggregate are read as they were written
 conjunct-back : (c : Conjunct) → Every StorableTerm (conjunctTerms c) → conjunctOf (conjunctItem c) ≡ c
 conjunct-back c (more a (more b done)) = λ i. record { test = test-back (c .test) i; first = term-back (c .first) a i; second = term-back (c .second) b i }
 
@@ -79,6 +77,7 @@ aggregate-back (maximum p) = refl
 
 -- ---- the sort of an item
 
+-- the tag of a conjunct
 pub tag-low : (t : Test) → between 1 7 (testTag t) ≡ true
 tag-low equal = refl
 tag-low unequal = refl
@@ -89,49 +88,35 @@ tag-low at-least = refl
 tag-low same = refl
 
 tag-not-high : (t : Test) → between 13 16 (testTag t) ≡ false
-tag-not-high equal = refl
-tag-not-high unequal = refl
-tag-not-high less = refl
-tag-not-high at-most = refl
-tag-not-high Test.more = refl
-tag-not-high at-least = refl
-tag-not-high same = refl
+tag-not-high t = between-fails 13 16 (testTag t) (λ h. omega (arith, between-says 1 7 (testTag t) (tag-low t)))
 
-pub aggregate-is : (g : Aggregate) → isAggregate (aggregateItem g) ≡ true
-aggregate-is count = refl
-aggregate-is (sum p) = refl
-aggregate-is (minimum p) = refl
-aggregate-is (maximum p) = refl
+-- an aggregate is written as an aggregate, and as no other item
+pub aggregate-meets : (g : Aggregate) → aggregateRight (aggregateItem g) ≡ true
+aggregate-meets count = refl
+aggregate-meets (sum p) = refl
+aggregate-meets (minimum p) = refl
+aggregate-meets (maximum p) = refl
+
+aggregate-is : (g : Aggregate) → isAggregate (aggregateItem g) ≡ true
+aggregate-is g = both _ _ (aggregate-meets g) .0
 
 pub aggregate-not-key : (g : Aggregate) → isKey (aggregateItem g) ≡ false
-aggregate-not-key count = refl
-aggregate-not-key (sum p) = refl
-aggregate-not-key (minimum p) = refl
-aggregate-not-key (maximum p) = refl
+aggregate-not-key g = restored.aggregate-not-key (aggregateItem g) (aggregate-meets g)
 
 pub aggregate-not-conjunct : (g : Aggregate) → isConjunct (aggregateItem g) ≡ false
-aggregate-not-conjunct count = refl
-aggregate-not-conjunct (sum p) = refl
-aggregate-not-conjunct (minimum p) = refl
-aggregate-not-conjunct (maximum p) = refl
+aggregate-not-conjunct g = restored.aggregate-not-conjunct (aggregateItem g) (aggregate-meets g)
 
 -- items of one sort in front, of another behind: what a test keeps that only the first pass, and one that only the second pass
 module _ {A B : Type 0} (f : A → Item) (g : B → Item) (p : Item → Bool) (xs : List A) (ys : List B) where
   pub keep-front : ((x : A) → p (f x) ≡ true) → ((y : B) → p (g y) ≡ false) → keep p (map f xs ++ map g ys) ≡ map f xs
-  keep-front a b =
-      keep-append p (map f xs) (map g ys)
-      ∙ ap (λ (l : List Item). l ++ keep p (map g ys)) (keep-all p (every-mapped f (every-of a xs)))
-      ∙ ap (λ (l : List Item). map f xs ++ l) (keep-none p (every-mapped g (every-of b ys)))
-      ∙ append-nil (map f xs)
+  keep-front a b = keep-first p (every-mapped f (every-of a xs)) (every-mapped g (every-of b ys))
 
-  pub keep-behind : ((x : A) → p (f x) ≡ false) → ((y : B) → p (g y) ≡ true) → keep p (map f xs ++ map g ys) ≡ map g ys
-  keep-behind a b =
-      keep-append p (map f xs) (map g ys)
-      ∙ ap (λ (l : List Item). l ++ keep p (map g ys)) (keep-none p (every-mapped f (every-of a xs)))
-      ∙ keep-all p (every-mapped g (every-of b ys))
+  keep-behind : ((x : A) → p (f x) ≡ false) → ((y : B) → p (g y) ≡ true) → keep p (map f xs ++ map g ys) ≡ map g ys
+  keep-behind a b = keep-second p (every-mapped f (every-of a xs)) (every-mapped g (every-of b ys))
 
 -- ---- the items of a node
 
+-- each list of items is read as it was written
 conjuncts-read : (cs : List Conjunct) → Every StorableTerm (each conjunctTerms cs) → map conjunctOf (map conjunctItem cs) ≡ cs
 conjuncts-read cs h = map-map conjunctOf conjunctItem cs ∙ map-id (λ c. conjunctOf (conjunctItem c)) (every-map conjunct-back (every-uneach conjunctTerms cs h))
 

@@ -16,11 +16,12 @@ use Rattle.plan.specs.Verdict.{headerRight}
 use Rattle.plan.specs.Encoding.{parts, nodeWords, allItems, wordsOf}
 use Rattle.plan.proofs.Laws.Header.{header-last}
 use Rattle.plan.proofs.Laws.Numbered.{numbered, each-at, each-length}
-use Rattle.plan.proofs.Laws.Written.{itemWords, itemOf, nodeItems, node-items, items-length, all-seven, item-among, six, word-among, words-length}
+use Rattle.plan.proofs.Laws.Written.{itemWords, itemOf, nodeItems, node-items, node-items-length, all-seven, item-among, six, word-among, words-length}
 
 -- ---- the header
 
 module _ (widths : List ℕ) (ns : List Node) where
+  -- the numbers of tables, nodes, items and words
   pub tables-of : tables (wordsOf widths ns) ≡ length widths
   unfolding word wordsOf
   tables-of = refl
@@ -52,10 +53,12 @@ module _ (widths : List ℕ) (ns : List Node) where
 -- ---- the words behind it
 
 module _ (widths : List ℕ) (ns : List Node) where
+  -- a word behind the header
   behind : (i : ℕ) → word (wordsOf widths ns) (8 + i) ≡ getD (widths ++ (nodeWords 0 ns ++ each (λ w. w) (allItems ns))) i 0
   unfolding word wordsOf
   behind i = getD-append-add (take 8 (wordsOf widths ns)) (widths ++ (nodeWords 0 ns ++ each (λ w. w) (allItems ns))) i 0
 
+  -- width t
   pub width-of : (t : ℕ) → t < length widths → tableWidth (wordsOf widths ns) t ≡ getD widths t 0
   width-of t h = behind t ∙ List·getD-append widths (nodeWords 0 ns ++ each (λ w. w) (allItems ns)) 0 t h
 
@@ -71,6 +74,7 @@ module _ (widths : List ℕ) (ns : List Node) where
       ∙ getD-append-add (nodeWords 0 ns) rest (7 * j + k) 0
       ∙ each-at 7 (all-seven ns) j k h
 
+  -- item j
   pub item-at-of : (j : ℕ) → itemAt (wordsOf widths ns) j ≡ itemOf (getD (allItems ns) j [])
   item-at-of j = λ i. record {
     tag = item-word-of j 0 (omega arith) i;
@@ -81,6 +85,7 @@ module _ (widths : List ℕ) (ns : List Node) where
   -- ---- node n; d stands for a node past the end
 
   module _ (d : Node) (n : ℕ) (h : n < length ns) where
+    -- word k of node n
     pub node-word-of : (k : ℕ) → k < 6 → nodeWord (wordsOf widths ns) n k ≡ getD (six (length (allItems (take n ns))) (getD ns n d)) k 0
     node-word-of k l =
         let rest : List ℕ = each (λ w. w) (allItems ns) in
@@ -113,7 +118,7 @@ module _ (widths : List ℕ) (ns : List Node) where
     -- the items of a node are those that it is written as
     pub node-items-of : itemsOf (wordsOf widths ns) n ≡ nodeItems (getD ns n d)
     node-items-of =
-        ap (λ (c : ℕ). map (λ i. itemAt ws (firstItem ws n + i)) (upto c)) (count-of ∙ items-length x)
+        ap (λ (c : ℕ). map (λ i. itemAt ws (firstItem ws n + i)) (upto c)) (count-of ∙ node-items-length x)
         ∙ numbered (λ i. itemAt ws (firstItem ws n + i)) (nodeItems x) (itemOf []) at
       where
         ws : List ℕ
@@ -129,6 +134,6 @@ module _ (widths : List ℕ) (ns : List Node) where
         at i l =
             item-at-of (firstItem ws n + i)
             ∙ ap (λ (a : ℕ). itemOf (getD (allItems ns) (a + i) [])) first-of
-            ∙ ap itemOf (item-among d ns n h i (rw (items-length x) l) ∙ ap (λ (l : List (List ℕ)). getD l i []) (node-items x))
+            ∙ ap itemOf (item-among d ns n h i (rw (node-items-length x) l) ∙ ap (λ (l : List (List ℕ)). getD l i []) (node-items x))
             ∙ sym (List·getD-map itemOf (map itemWords (nodeItems x)) i [])
             ∙ ap (λ (l : List Item). getD l i (itemOf [])) back

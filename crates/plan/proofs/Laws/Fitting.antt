@@ -20,6 +20,7 @@ either : {A : Type 0} (P : A → Type 0) (b : Bool) {x y : A} → P x → P y �
 either P true p q = p
 either P false p q = q
 
+-- what a word, a term, conjuncts, a computation and a node say can be written
 constant-fits : (x : ℕ) → x < 2 ^ 32 → StorableTerm (constant (signed x))
 unfolding signed
 constant-fits x h = go (ltb x (2 ^ 31)) refl
@@ -36,6 +37,7 @@ conjuncts-fit : {xs : List Item} → Every Narrow xs → Every StorableTerm (eac
 conjuncts-fit h =
     every-each conjunctTerms (every-mapped conjunctOf (every-map (λ x g. more (term-fits (x .first) (g .0)) (more (term-fits (x .second) (g .1)) done)) (every-keep isConjunct h)))
 
+-- every term of a computation can be written
 Fits : Computation → Type 0
 Fits c = Every StorableTerm (computationTerms c)
 
@@ -65,12 +67,15 @@ node-fits o l r k xs h =
     cs = conjuncts-fit h
 
 module _ (ws : List ℕ) (small : Every (λ w. w < 2 ^ 32) ws) where
+  -- every word that is read is below 2^32
   pub word-small : (i : ℕ) → word ws i < 2 ^ 32
   unfolding word
   word-small i = every-at 0 (omega arith) small i
 
+  -- the values in the items of a node are below 2^32
   pub narrow : (n : ℕ) → Every Narrow (itemsOf ws n)
   narrow n = every-mapped (λ i. itemAt ws (firstItem ws n + i)) (every-of (λ i. (word-small _, word-small _)) (upto (itemCount ws n)))
 
+  -- every node can be written
   pub storable : Storable (nodesOf ws)
   storable = every-mapped (nodeAt ws) (every-of (λ n. node-fits _ _ _ _ (itemsOf ws n) (narrow n)) (upto (nodes ws)))

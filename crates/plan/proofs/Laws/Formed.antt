@@ -1,28 +1,29 @@
 -- What well-formed words say of each node.
-use mathlib.Core.Path.{_≡_, refl, sym, ap, _∙_}
-use mathlib.Core.Bool.{Bool, true, false, cond, _&&_, true≢false}
-use mathlib.Core.List.{List, [], _∷_, _++_, map}
+use mathlib.Core.Path.{_≡_, refl, sym, _∙_}
+use mathlib.Core.Bool.{Bool, true, false, cond}
+use mathlib.Core.List.{List, [], _∷_, map}
 use Prim.Native.Nat.{ℕ, zero, suc, _+_, _≤_, _<_}
 use native.Mathlib.Omega.{arith}
 use lib.Dec.{leb, ltb, eqb}
-use lib.ListN.{length, getD, List·getD-map, List·getD-append, length-map}
-use lib.Seq.{getD-at}
-use borrow.Author.Tests.{ltb-true, ltb-false, leb-true, eqb-true, eqb-false, eq-eqb, ne-eqb}
+use lib.ListN.{length, getD}
+use borrow.Author.Tests.{ltb-true, leb-true, eqb-true, eqb-false, eq-eqb, ne-eqb}
 use Rattle.algebra.specs.Lists.{upto, Every, done, more}
 use Rattle.algebra.specs.Plan.{Kind, inputs}
 use Rattle.algebra.specs.Columns.{shapeOf, shapeAt}
-use Rattle.algebra.proofs.Lists.Same.{and-left, and-right}
-use Rattle.algebra.proofs.Columns.Picked.{length-upto}
+use Rattle.algebra.proofs.Lists.Every.{every-of}
+use Rattle.algebra.proofs.Lists.Keep.{map-id}
 use Rattle.algebra.proofs.Tables.Shapes.{shape-at}
 use Rattle.plan.specs.Words.{Item, tables, nodes, items, operator, left, right, kind, firstItem, itemCount, itemsOf}
 use Rattle.plan.specs.Items.{between}
 use Rattle.plan.specs.Plan.{nodeFor, nodeAt, kindOf, widthsOf, nodesOf}
 use Rattle.plan.specs.Verdict.{hasRight, hasKind, itemsRight, itemsBefore, inputsRight, kindRight, countRight, nodeRight}
 use Rattle.plan.specs.Promise.{Sized, Formed}
-use Rattle.plan.proofs.Laws.Header.{between-says, Limits, limits-say}
+use Rattle.plan.proofs.Laws.Header.{both, between-says, Limits, limits-say}
+use Rattle.plan.proofs.Laws.Numbered.{numbered-at, numbered-length}
 
 -- ---- numbers
 
+-- a number between two others
 pub between-low : (a b x : ℕ) → between a b x ≡ true → a ≤ x
 between-low a b x e = between-says a b x e .0
 
@@ -31,21 +32,15 @@ between-high a b x e = between-says a b x e .1
 
 -- 0, 1, .. has i at i
 pub upto-at : (n i d : ℕ) → i < n → getD (upto n) i d ≡ i
-upto-at zero i d h = absurd (omega arith)
-upto-at (suc n) i d h = go (ltb i n) refl (upto-at n i d)
-  where
-    go : (b : Bool) → ltb i n ≡ b → (i < n → getD (upto n) i d ≡ i) → getD (upto n ++ (n ∷ [])) i d ≡ i
-    go true t before = List·getD-append (upto n) (n ∷ []) d i (rw (length-upto n) (ltb-true i n t)) ∙ before (ltb-true i n t)
-    go false t before =
-        let q : i ≡ n = omega (arith, ltb-false i n t) in
-        rw q (getD-at (upto n) n [] d n (length-upto n))
+upto-at n i d h = rw (map-id (λ k. k) (every-of (λ k. refl) (upto n))) at (numbered-at (λ k. k) n i d h)
 
 -- what a list worked out at 0, 1, .. has at i
 pub mapped-at : {A : Type 0} (f : ℕ → A) (n i j : ℕ) → i < n → getD (map f (upto n)) i (f j) ≡ f i
-mapped-at f n i j h = List·getD-map f (upto n) i j ∙ ap f (upto-at n i j h)
+mapped-at f n i j h = numbered-at f n i (f j) h
 
 -- ---- the limits
 
+-- what the limits of a sized slice say
 pub limited : (ws : List ℕ) → Sized ws → Limits ws
 limited ws s = limits-say ws (s .limits)
 
@@ -64,14 +59,30 @@ by-operator P p1 p2 p3 p4 p5 p6 p7 p8 (suc (suc (suc (suc (suc (suc (suc zero)))
 by-operator P p1 p2 p3 p4 p5 p6 p7 p8 (suc (suc (suc (suc (suc (suc (suc (suc zero)))))))) l h = p8
 by-operator P p1 p2 p3 p4 p5 p6 p7 p8 (suc (suc (suc (suc (suc (suc (suc (suc (suc o))))))))) l h = absurd (omega arith)
 
-cond-true : (b x y : Bool) → b ≡ true → cond b x y ≡ true → x ≡ true
-cond-true true x y e h = h
-cond-true false x y e h = absurd (true≢false (sym e))
+-- the tests of a right node
+pub node-tests : (ws : List ℕ) (n : ℕ) → nodeRight ws n ≡ true
+    → (between 1 8 (operator ws n) ≡ true) × (inputsRight ws n ≡ true) × (kindRight ws n ≡ true) × (countRight ws n ≡ true) × (itemsRight (operator ws n) (itemsOf ws n) ≡ true)
+unfolding nodeRight
+node-tests ws n e =
+    let a = both (between 1 8 (operator ws n)) _ e in
+    let b = both (inputsRight ws n) _ (a .1) in
+    let c = both (kindRight ws n) _ (b .1) in
+    let d = both (countRight ws n) _ (c .1) in
+    (a .0, b .0, c .0, d .0, d .1)
 
-cond-false : (b x y : Bool) → b ≡ false → cond b x y ≡ true → y ≡ true
-cond-false true x y e h = absurd (true≢false e)
-cond-false false x y e h = h
+-- what a right count says
+pub count-says : (ws : List ℕ) (n : ℕ) → countRight ws n ≡ true → (firstItem ws n ≡ itemsBefore ws n) × (firstItem ws n + itemCount ws n ≤ items ws)
+unfolding countRight
+count-says ws n e =
+    let h = both (eqb (firstItem ws n) (itemsBefore ws n)) _ e in
+    let f : firstItem ws n ≡ itemsBefore ws n = eqb-true _ _ (h .0) in
+    (f, rw f (ends (eqb (n + 1) (nodes ws)) (h .1)))
+  where
+    ends : (b : Bool) → cond b (eqb (itemsBefore ws n + itemCount ws n) (items ws)) (leb (itemsBefore ws n + itemCount ws n) (items ws)) ≡ true → itemsBefore ws n + itemCount ws n ≤ items ws
+    ends true h = omega (arith, eqb-true (itemsBefore ws n + itemCount ws n) (items ws) h)
+    ends false h = leb-true _ _ h
 
+-- what a right node says
 pub record NodeFacts (ws : List ℕ) (n : ℕ) : Type 0 where
   pub low : 1 ≤ operator ws n
   pub high : operator ws n ≤ 8
@@ -85,50 +96,30 @@ pub record NodeFacts (ws : List ℕ) (n : ℕ) : Type 0 where
   pub sorts : itemsRight (operator ws n) (itemsOf ws n) ≡ true
 
 pub node-facts : (ws : List ℕ) (n : ℕ) → nodeRight ws n ≡ true → NodeFacts ws n
-unfolding nodeRight inputsRight kindRight countRight
-node-facts ws n e = record {
-  low = between-low 1 8 o range;
-  high = between-high 1 8 o range;
-  left-table = λ q. ltb-true _ _ (cond-true (eqb o 1) _ _ (eq-eqb o 1 q) lefts);
-  left-node = λ q. ltb-true _ _ (cond-false (eqb o 1) _ _ (ne-eqb o 1 q) lefts);
-  right-node = λ q. ltb-true _ _ (cond-true (hasRight o) _ _ q rights);
-  kind-low = λ q. between-low 1 4 (kind ws n) (cond-true (hasKind o) _ _ q kinds);
-  kind-high = λ q. between-high 1 4 (kind ws n) (cond-true (hasKind o) _ _ q kinds);
-  first = eqb-true _ _ (and-left (eqb (firstItem ws n) (itemsBefore ws n)) _ counts);
-  within = rw (eqb-true (firstItem ws n) (itemsBefore ws n) (and-left (eqb (firstItem ws n) (itemsBefore ws n)) _ counts)) (ends (eqb (n + 1) (nodes ws)) (and-right (eqb (firstItem ws n) (itemsBefore ws n)) _ counts));
-  sorts = and-right (countRight ws n) _ rest3;
-}
-  where
-    o : ℕ
-    o = operator ws n
+unfolding inputsRight kindRight
+node-facts ws n e =
+    let t = node-tests ws n e in
+    let i = both (cond (eqb (operator ws n) 1) (ltb (left ws n) (tables ws)) (ltb (left ws n) n)) _ (t .1) in
+    let lefts : cond (eqb (operator ws n) 1) (ltb (left ws n) (tables ws)) (ltb (left ws n) n) ≡ true = i .0 in
+    let rights : cond (hasRight (operator ws n)) (ltb (right ws n) n) (eqb (right ws n) 0) ≡ true = i .1 in
+    let kinds : cond (hasKind (operator ws n)) (between 1 4 (kind ws n)) (eqb (kind ws n) 0) ≡ true = t .2 in
+    let counts = count-says ws n (t .3) in
+    record {
+      low = between-low 1 8 (operator ws n) (t .0);
+      high = between-high 1 8 (operator ws n) (t .0);
+      left-table = λ q. ltb-true _ _ (rw (eq-eqb (operator ws n) 1 q) at lefts);
+      left-node = λ q. ltb-true _ _ (rw (ne-eqb (operator ws n) 1 q) at lefts);
+      right-node = λ q. ltb-true _ _ (rw q at rights);
+      kind-low = λ q. between-low 1 4 (kind ws n) (rw q at kinds);
+      kind-high = λ q. between-high 1 4 (kind ws n) (rw q at kinds);
+      first = counts .0;
+      within = counts .1;
+      sorts = t .4;
+    }
 
-    range : between 1 8 o ≡ true
-    range = and-left (between 1 8 o) _ e
-
-    rest1 : (inputsRight ws n && (kindRight ws n && (countRight ws n && itemsRight o (itemsOf ws n)))) ≡ true
-    rest1 = and-right (between 1 8 o) _ e
-
-    rest2 : (kindRight ws n && (countRight ws n && itemsRight o (itemsOf ws n))) ≡ true
-    rest2 = and-right (inputsRight ws n) _ rest1
-
-    rest3 : (countRight ws n && itemsRight o (itemsOf ws n)) ≡ true
-    rest3 = and-right (kindRight ws n) _ rest2
-
-    lefts : cond (eqb o 1) (ltb (left ws n) (tables ws)) (ltb (left ws n) n) ≡ true
-    lefts = and-left (cond (eqb o 1) (ltb (left ws n) (tables ws)) (ltb (left ws n) n)) _ (and-left (inputsRight ws n) _ rest1)
-
-    rights : cond (hasRight o) (ltb (right ws n) n) (eqb (right ws n) 0) ≡ true
-    rights = and-right (cond (eqb o 1) (ltb (left ws n) (tables ws)) (ltb (left ws n) n)) _ (and-left (inputsRight ws n) _ rest1)
-
-    kinds : cond (hasKind o) (between 1 4 (kind ws n)) (eqb (kind ws n) 0) ≡ true
-    kinds = and-left (kindRight ws n) _ rest2
-
-    counts : countRight ws n ≡ true
-    counts = and-left (countRight ws n) _ rest3
-
-    ends : (b : Bool) → cond b (eqb (itemsBefore ws n + itemCount ws n) (items ws)) (leb (itemsBefore ws n + itemCount ws n) (items ws)) ≡ true → itemsBefore ws n + itemCount ws n ≤ items ws
-    ends true h = omega (arith, eqb-true (itemsBefore ws n + itemCount ws n) (items ws) h)
-    ends false h = leb-true _ _ h
+-- whether a node has a right input, as the code reads it
+pub right-read : (ws : List ℕ) (n : ℕ) {o : ℕ} {b t : Bool} → o ≡ operator ws n → b ≡ hasRight o → b ≡ t → hasRight (operator ws n) ≡ t
+right-read ws n e says q = rw (sym e) (sym says ∙ q)
 
 -- the inputs of the node that the words say
 inputs-for : (l r : ℕ) (k : Kind) (xs : List Item) (o : ℕ) → 1 ≤ o → o ≤ 8
@@ -138,9 +129,11 @@ inputs-for l r k xs =
     by-operator (λ o. inputs (nodeFor o l r k xs) ≡ cond (eqb o 1) [] (cond (hasRight o) (l ∷ r ∷ []) (l ∷ []))) refl refl refl refl refl refl refl refl
 
 module _ (ws : List ℕ) (f : Formed ws) (n : ℕ) (h : n < nodes ws) where
+  -- the facts of node n
   pub facts-at : NodeFacts ws n
   facts-at = node-facts ws n (f .formed n h)
 
+  -- the inputs of node n by its words
   pub inputs-at : inputs (nodeAt ws n) ≡ cond (eqb (operator ws n) 1) [] (cond (hasRight (operator ws n)) (left ws n ∷ right ws n ∷ []) (left ws n ∷ []))
   inputs-at = inputs-for (left ws n) (right ws n) (kindOf (kind ws n)) (itemsOf ws n) (operator ws n) (facts-at .low) (facts-at .high)
 
@@ -156,8 +149,16 @@ module _ (ws : List ℕ) (f : Formed ws) (n : ℕ) (h : n < nodes ws) where
       scanned true e = done
       scanned false e = paired e (hasRight (operator ws n)) refl
 
+  -- the same as the code reads them
+  module _ {o : ℕ} (e : o ≡ operator ws n) where
+    pub left-below : (o ≡ 1 → ⊥) → {i w : ℕ} → i ≡ left ws n → w ≡ i → w < n
+    left-below q d t = omega (arith, facts-at .left-node (λ s. q (e ∙ s)))
+
+    pub right-below : hasRight o ≡ true → {i w : ℕ} → i ≡ right ws n → w ≡ i → w < n
+    right-below q d t = omega (arith, facts-at .right-node (rw (sym e) q))
+
 pub nodes-length : (ws : List ℕ) → length (nodesOf ws) ≡ nodes ws
-nodes-length ws = length-map (upto (nodes ws)) (nodeAt ws) ∙ length-upto (nodes ws)
+nodes-length ws = numbered-length (nodeAt ws) (nodes ws)
 
 -- the shape of a node from those of its inputs
 pub shape-of : (ws : List ℕ) → Formed ws → (n : ℕ) → n < nodes ws

@@ -1,22 +1,24 @@
 -- What the header and the limits say where they are right.
 use mathlib.Core.Path.{_≡_, refl, sym, _∙_}
-use mathlib.Core.Bool.{Bool, true, false, false≢true, _&&_}
-use mathlib.Core.List.{List, [], _∷_, map}
+use mathlib.Core.Bool.{Bool, true, false, _&&_}
+use mathlib.Core.List.{List, map}
 use Prim.Native.Nat.{ℕ, _+_, _*_, _<_, _≤_}
 use lib.Dec.{eqb}
 use lib.ListN.{length}
 use borrow.Author.Tests.{le-leb, leb-true, eq-eqb, eqb-true}
 use Rattle.algebra.specs.Lists.{all, upto}
+use Rattle.algebra.proofs.Lists.Every.{every-of}
+use Rattle.algebra.proofs.Lists.Same.{and-left, and-right}
 use Rattle.plan.specs.Words.{word, tables, nodes, items, tableWidth}
 use Rattle.plan.specs.Items.{between}
 use Rattle.plan.specs.Verdict.{headerRight, limitsRight}
-use Rattle.plan.proofs.Laws.Loops.{all-more, all-fails, all-end}
+use Rattle.plan.proofs.Laws.Loops.{all-more, all-fails, all-end, all-map}
 
 -- both sides of a conjunction
 pub both : (a b : Bool) → (a && b) ≡ true → (a ≡ true) × (b ≡ true)
-both true b e = (refl, e)
-both false b e = absurd (false≢true e)
+both a b e = (and-left a b e, and-right a b e)
 
+-- what cannot hold is false
 pub refuted : (b : Bool) → (b ≡ true → ⊥) → false ≡ b
 refuted true f = absurd (f refl)
 refuted false f = refl
@@ -76,30 +78,27 @@ between-says a b x e = let h = both _ _ e in (leb-true a x (h .0), leb-true x b 
 pub between-fails : (a b x : ℕ) → ((a ≤ x) × (x ≤ b) → ⊥) → between a b x ≡ false
 between-fails a b x f = sym (refuted (between a b x) (λ e. f (between-says a b x e)))
 
-pub all-map : {A B : Type 0} (p : B → Bool) (f : A → B) (xs : List A) → all p (map f xs) ≡ all (λ x. p (f x)) xs
-all-map p f [] = refl
-all-map p f (x ∷ xs) = rw (all-map p f xs)
-
 module _ (ws : List ℕ) where
   -- the widths of the first n tables
   abbrev pub widthsRight : ℕ → Bool
   widthsRight n = all (λ t. between 1 64 (tableWidth ws t)) (upto n)
 
-  same : (n : ℕ) → all (between 1 64) (map (tableWidth ws) (upto n)) ≡ widthsRight n
-  same n = all-map (between 1 64) (tableWidth ws) (upto n)
+  -- the same over the list of widths
+  pub widths-mapped : (n : ℕ) → all (between 1 64) (map (tableWidth ws) (upto n)) ≡ widthsRight n
+  widths-mapped n = all-map (tableWidth ws) (between 1 64) (λ t. between 1 64 (tableWidth ws t)) (every-of (λ t. refl) (upto n))
 
   -- one table more
   pub widths-more : (i w : ℕ) → widthsRight i ≡ true → w ≡ tableWidth ws i → 1 ≤ w → w ≤ 64 → widthsRight (i + 1) ≡ true
   widths-more i w e q g h =
-      sym (same (i + 1)) ∙ all-more (between 1 64) (tableWidth ws) i (same i ∙ e) (rw q at (between-holds 1 64 w g h))
+      sym (widths-mapped (i + 1)) ∙ all-more (between 1 64) (tableWidth ws) i (widths-mapped i ∙ e) (rw q at (between-holds 1 64 w g h))
 
   -- a table whose width is not within its limit
   pub widths-fail : (i n w : ℕ) → w ≡ tableWidth ws i → ((1 ≤ w) × (w ≤ 64) → ⊥) → i < n → false ≡ widthsRight n
-  widths-fail i n w q f l = all-fails (between 1 64) (tableWidth ws) i n (rw q at (between-fails 1 64 w f)) l ∙ same n
+  widths-fail i n w q f l = all-fails (between 1 64) (tableWidth ws) i n (rw q at (between-fails 1 64 w f)) l ∙ widths-mapped n
 
   -- all tables passed
   pub widths-end : (i n : ℕ) → widthsRight i ≡ true → n ≤ i → i ≤ n → true ≡ widthsRight n
-  widths-end i n e g h = all-end (between 1 64) (tableWidth ws) i n (same i ∙ e) g h ∙ same n
+  widths-end i n e g h = all-end (between 1 64) (tableWidth ws) i n (widths-mapped i ∙ e) g h ∙ widths-mapped n
 
   -- what right limits say
   pub record Limits : Type 0 where

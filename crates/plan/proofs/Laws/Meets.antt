@@ -6,10 +6,10 @@ use Prim.Native.Nat.{ℕ, zero, suc, _+_, _<_, _≤_}
 use native.Mathlib.Omega.{arith}
 use lib.Dec.{leb, ltb, eqb}
 use lib.ListN.{length, getD, take, drop, take-append-drop, length-append, length-map}
-use lib.Seq.{take-at, drop-at, take-suc, take-length}
-use borrow.Author.Tests.{lt-ltb, le-leb, eq-eqb, eqb-true}
+use lib.Seq.{take-suc, take-length}
+use borrow.Author.Tests.{lt-ltb, le-leb, eq-eqb, ne-eqb, eqb-true}
 use Rattle.algebra.specs.Lists.{keep, all, isEmpty, each, upto, Every, done, more}
-use Rattle.algebra.specs.Plan.{Term, column, outer, constant, nothing, Conjunct, Computation, copy, add, subtract, Aggregate, count, sum, minimum, maximum, Kind, inner, semi, anti, left-outer, Node, scan, select, compute, project, join, group, groupjoin, dependent}
+use Rattle.algebra.specs.Plan.{Term, column, outer, constant, nothing, Conjunct, Computation, copy, add, subtract, Aggregate, Kind, inner, semi, anti, left-outer, Node, scan, select, compute, project, join, group, groupjoin, dependent}
 use Rattle.algebra.proofs.Lists.Every.{every-of, every-map, every-mapped, every-uneach, every-at}
 use Rattle.algebra.proofs.Lists.Keep.{each-append}
 use Rattle.plan.specs.Words.{Item, tables, nodes, items, tableWidth, itemCount}
@@ -17,11 +17,13 @@ use Rattle.plan.specs.Items.{between, isConjunct, isKey, termRight, conj
 use Rattle.plan.specs.Verdict.{inFront, itemsRight, hasRight, hasKind, itemsBefore, inputsRight, kindRight, countRight, nodeRight}
 use Rattle.plan.specs.Promise.{Formed}
 use Rattle.plan.specs.Encoding.{kindWord, parts, allItems, wordsOf, conjunctTerms, computationTerms, termsOf}
-use Rattle.plan.proofs.Laws.Header.{between-holds, all-map, widthsRight, limits-last}
+use Rattle.plan.proofs.Laws.Loops.{all-of, empty-length}
+use Rattle.plan.proofs.Laws.Header.{between-holds, widthsRight, widths-mapped, limits-last}
+use Rattle.plan.proofs.Laws.Items.{front-append}
 use Rattle.plan.proofs.Laws.Numbered.{numbered}
 use Rattle.plan.proofs.Laws.Encoded as encoded
 use Rattle.plan.proofs.Laws.Written.{threeOf, conjunctItem, computationItem, positionItem, aggregateItem, nodeItems}
-use Rattle.plan.proofs.Laws.Decoded.{keep-front, tag-low, aggregate-not-key, aggregate-not-conjunct}
+use Rattle.plan.proofs.Laws.Decoded.{keep-front, tag-low, aggregate-meets, aggregate-not-key, aggregate-not-conjunct}
 
 -- ---- what the check asks of a plan's nodes
 
@@ -45,6 +47,7 @@ Placed T n (dependent k cs l r) = (l < n) × (r < n)
 
 -- ---- its first four words
 
+-- the operator of a node
 operator-meets : (x : Node) → between 1 8 (parts x .operator) ≡ true
 operator-meets (scan t) = refl
 operator-meets (select cs i) = refl
@@ -59,6 +62,7 @@ operator-meets (dependent k cs l r) = refl
 abbrev inputsTest : ℕ → ℕ → ℕ → ℕ → ℕ → Bool
 inputsTest T n o l r = cond (eqb o 1) (ltb l T) (ltb l n) && cond (hasRight o) (ltb r n) (eqb r 0)
 
+-- its inputs
 inputs-meet : (T n : ℕ) (x : Node) → Placed T n x → inputsTest T n (parts x .operator) (parts x .left) (parts x .right) ≡ true
 inputs-meet T n (scan t) h = rw (lt-ltb t T h)
 inputs-meet T n (select cs i) h = rw (lt-ltb i n h)
@@ -75,6 +79,7 @@ kind-word-meets semi = refl
 kind-word-meets anti = refl
 kind-word-meets left-outer = refl
 
+-- its kind
 kind-meets : (x : Node) → cond (hasKind (parts x .operator)) (between 1 4 (parts x .kind)) (eqb (parts x .kind) 0) ≡ true
 kind-meets (scan t) = refl
 kind-meets (select cs i) = refl
@@ -87,6 +92,7 @@ kind-meets (dependent k cs l r) = kind-word-meets k
 
 -- ---- its items
 
+-- a term with a level up to 7, and the items made of such terms
 term-meets : (t : Term) → Levelled t → termRight (threeOf t) ≡ true
 unfolding termRight
 term-meets (column p) h = refl
@@ -102,55 +108,47 @@ computation-meets (copy a) (more h done) = rw (term-meets a h)
 computation-meets (add a b) (more h (more g done)) = rw (term-meets a h, term-meets b g)
 computation-meets (subtract a b) (more h (more g done)) = rw (term-meets a h, term-meets b g)
 
-aggregate-meets : (g : Aggregate) → aggregateRight (aggregateItem g) ≡ true
-aggregate-meets count = refl
-aggregate-meets (sum p) = refl
-aggregate-meets (minimum p) = refl
-aggregate-meets (maximum p) = refl
-
-all-every : {A : Type 0} (p : A → Bool) {xs : List A} → Every (λ x. p x ≡ true) xs → all p xs ≡ true
-all-every p done = refl
-all-every p (more h t) = rw (h, all-every p t)
-
 conjuncts-meet : (cs : List Conjunct) → Every Levelled (each conjunctTerms cs) → all conjunctRight (map conjunctItem cs) ≡ true
-conjuncts-meet cs h = all-every conjunctRight (every-mapped conjunctItem (every-map conjunct-meets (every-uneach conjunctTerms cs h)))
+conjuncts-meet cs h = all-of conjunctRight (every-mapped conjunctItem (every-map conjunct-meets (every-uneach conjunctTerms cs h)))
 
 aggregates-meet : (gs : List Aggregate) → all aggregateRight (map aggregateItem gs) ≡ true
-aggregates-meet gs = all-every aggregateRight (every-mapped aggregateItem (every-of aggregate-meets gs))
+aggregates-meet gs = all-of aggregateRight (every-mapped aggregateItem (every-of aggregate-meets gs))
 
-and-true : {a b : Bool} → a ≡ true → b ≡ true → (a && b) ≡ true
-and-true e f = λ i. e i && f i
+-- both sides of a conjunction hold
+and-holds : {a b : Bool} → a ≡ true → b ≡ true → (a && b) ≡ true
+and-holds e f = λ i. e i && f i
 
 -- items of one sort in front, of another behind
 in-front : (p q : Item → Bool) (m : ℕ) (xs ys : List Item) → length xs ≡ m → all p xs ≡ true → all q ys ≡ true → inFront p q m (xs ++ ys) ≡ true
-in-front p q m xs ys e f g = rw (take-at xs ys m e, drop-at xs ys m e, f, g)
+in-front p q m xs ys e f g = front-append p q m xs ys e ∙ and-holds f g
 
+-- a list with an element is not empty
 not-empty : {A : Type 0} (xs : List A) → 0 < length xs → not (isEmpty xs) ≡ true
-not-empty [] h = absurd (omega arith)
-not-empty (x ∷ xs) h = refl
+not-empty xs h = rw (empty-length xs, ne-eqb (length xs) 0 (λ q. omega arith))
 
+-- its items
 items-meet : (T n : ℕ) (x : Node) → Placed T n x → Every Levelled (termsOf x) → itemsRight (parts x .operator) (nodeItems x) ≡ true
 unfolding itemsRight
 items-meet T n (scan t) h e = refl
 items-meet T n (select cs i) h e = conjuncts-meet cs e
 items-meet T n (compute c i) h e = rw (computation-meets c e)
 items-meet T n (project ps i) h e =
-    and-true
+    and-holds
     (not-empty (map (positionItem 12) ps) (omega (arith, length-map ps (positionItem 12))))
-    (all-every outputRight (every-mapped (positionItem 12) (every-of (λ p. refl) ps)))
+    (all-of outputRight (every-mapped (positionItem 12) (every-of (λ p. refl) ps)))
 items-meet T n (join k cs l r) h e = conjuncts-meet cs e
 items-meet T n (group ks gs i) h e =
     let xs : List Item = map (positionItem 11) ks in
     let ys : List Item = map aggregateItem gs in
     let m : length (keep isKey (xs ++ ys)) ≡ length xs = ap length (keep-front (positionItem 11) aggregateItem isKey ks gs (λ p. refl) aggregate-not-key) in
-    and-true
+    and-holds
     (not-empty (xs ++ ys) (omega (arith, length-append xs ys, length-map ks (positionItem 11), length-map gs aggregateItem)))
-    (in-front keyRight aggregateRight (length (keep isKey (xs ++ ys))) xs ys (sym m) (all-every keyRight (every-mapped (positionItem 11) (every-of (λ p. refl) ks))) (aggregates-meet gs))
+    (in-front keyRight aggregateRight (length (keep isKey (xs ++ ys))) xs ys (sym m) (all-of keyRight (every-mapped (positionItem 11) (every-of (λ p. refl) ks))) (aggregates-meet gs))
 items-meet T n (groupjoin cs gs l r) h e =
     let xs : List Item = map conjunctItem cs in
     let ys : List Item = map aggregateItem gs in
     let m : length (keep isConjunct (xs ++ ys)) ≡ length xs = ap length (keep-front conjunctItem aggregateItem isConjunct cs gs (λ c. tag-low (c .test)) aggregate-not-conjunct) in
-    and-true
+    and-holds
     (lt-ltb (length (keep isConjunct (xs ++ ys))) (length (xs ++ ys)) (omega (arith, length-append xs ys, length-map gs aggregateItem)))
     (in-front conjunctRight aggregateRight (length (keep isConjunct (xs ++ ys))) xs ys (sym m) (conjuncts-meet cs e) (aggregates-meet gs))
 items-meet T n (dependent k cs l r) h e = conjuncts-meet cs e
@@ -173,7 +171,7 @@ module _ (widths : List ℕ) (ns : List Node) (d : Node) where
   count-right : (n : ℕ) → n < length ns → countRight (wordsOf widths ns) n ≡ true
   unfolding countRight itemsBefore
   count-right n h =
-      and-true
+      and-holds
       (eq-eqb _ _ (encoded.first-of widths ns d n h ∙ sym (before-of n (omega arith))))
       (go (eqb (n + 1) (nodes ws)) refl)
     where
@@ -203,13 +201,13 @@ module _ (widths : List ℕ) (ns : List Node) (d : Node) where
       let l = encoded.left-of widths ns d n h in
       let r = encoded.right-of widths ns d n h in
       let k = encoded.kind-of widths ns d n h in
-      and-true
+      and-holds
       (ap (between 1 8) o ∙ operator-meets x)
-      (and-true
+      (and-holds
       ((λ i. inputsTest (encoded.tables-of widths ns i) n (o i) (l i) (r i)) ∙ inputs-meet (length widths) n x p)
-      (and-true
+      (and-holds
       ((λ i. cond (hasKind (o i)) (between 1 4 (k i)) (eqb (k i) 0)) ∙ kind-meets x)
-      (and-true
+      (and-holds
       (count-right n h)
       ((λ i. itemsRight (o i) (encoded.node-items-of widths ns d n h i)) ∙ items-meet (length widths) n x p e))))
 
@@ -227,12 +225,13 @@ pub record Writable (widths : List ℕ) (ns : List Node) : Type 0 where
   pub levelled : Every (λ x. Every Levelled (termsOf x)) ns
 
 module _ (widths : List ℕ) (ns : List Node) (w : Writable widths ns) where
+  -- the widths of its tables
   widths-right : true ≡ widthsRight (wordsOf widths ns) (tables (wordsOf widths ns))
   widths-right =
-      sym (sym (all-map (between 1 64) (tableWidth ws) (upto (tables ws)))
+      sym (sym (widths-mapped ws (tables ws))
       ∙ ap (λ (n : ℕ). all (between 1 64) (map (tableWidth ws) (upto n))) (encoded.tables-of widths ns)
       ∙ ap (all (between 1 64)) (numbered (tableWidth ws) widths 0 (encoded.width-of widths ns))
-      ∙ all-every (between 1 64) (every-map (λ x h. between-holds 1 64 x (h .0) (h .1)) (w .widths-within)))
+      ∙ all-of (between 1 64) (every-map (λ x h. between-holds 1 64 x (h .0) (h .1)) (w .widths-within)))
     where
       ws : List ℕ
       ws = wordsOf widths ns

@@ -8,7 +8,7 @@ use native.Mathlib.Omega.{arith}
 use lib.ListN.{length, getD, take, length-append, length-map, List·getD-append}
 use lib.Seq.{getD-append-add, take-at}
 use Rattle.algebra.specs.Lists.{all, upto, each, Every, done, more}
-use Rattle.algebra.proofs.Lists.Keep.{map-append, map-map}
+use Rattle.algebra.proofs.Lists.Keep.{map-append, map-map, each-append}
 use Rattle.algebra.proofs.Lists.Same.{and-left, and-right}
 use Rattle.algebra.proofs.Columns.Picked.{length-upto}
 use Rattle.algebra.proofs.Domains.Keys.{upto-all}
@@ -33,6 +33,7 @@ module _ {A : Type 0} where
       ∙ ap (λ (y : A). y ∷ map f (map suc (upto (length xs)))) (h 0 (zero-lt-suc (length xs)))
       ∙ ap (λ (l : List A). x ∷ l) (map-map f suc (upto (length xs)) ∙ numbered (λ i. f (suc i)) xs d (λ i l. h (suc i) (suc-le-suc l)))
 
+  -- its element at i
   pub numbered-at : (f : ℕ → A) (n i : ℕ) (d : A) → i < n → getD (map f (upto n)) i d ≡ f i
   numbered-at f zero i d h = absurd (omega arith)
   numbered-at f (suc n) zero d h = ap (λ (l : List ℕ). getD (map f l) 0 d) (upto-first n)
@@ -59,6 +60,10 @@ module _ {A : Type 0} where
       ∙ ap (take i) (numbered-add f i (n - i))
       ∙ take-at (map f (upto i)) (map (λ j. f (i + j)) (upto (n - i))) i (numbered-length f i)
 
+-- one list more behind the others
+pub each-more : {A B : Type 0} (g : A → List B) (f : ℕ → A) (n : ℕ) → each g (map f (upto (suc n))) ≡ each g (map f (upto n)) ++ g (f n)
+each-more g f n = rw (map-append f (upto n) (n ∷ []), each-append g (map f (upto n)) (f n ∷ []), append-nil (g (f n)))
+
 -- a property of n numbers from a on
 pub in-range : (P : ℕ → Type 0) (a n : ℕ) → Every (λ i. P (a + i)) (upto n) → (x : ℕ) → a ≤ x → x < a + n → P x
 in-range P a n t x g h =
@@ -80,6 +85,7 @@ each-at m (more {x = x} {xs = xs} e t) (suc j) k h =
     let p : m * suc j + k ≡ length x + (m * j + k) = rw e (omega arith) in
     rw p (getD-append-add x (each (λ y. y) xs) (m * j + k) 0) ∙ each-at m t j k h
 
+-- the length of such lists one behind the other
 pub each-length : (m : ℕ) {xs : List (List ℕ)} → Every (λ x. length x ≡ m) xs → length (each (λ x. x) xs) ≡ m * length xs
 each-length m done = omega arith
 each-length m (more {x = x} {xs = xs} e t) = rw (length-append x (each (λ y. y) xs), e, each-length m t) (omega arith)

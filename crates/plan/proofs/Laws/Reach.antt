@@ -6,15 +6,14 @@ use Prim.Native.Nat.{ℕ, zero, suc, _+_, _-_, _≤_, _<_, max, pred}
 use native.Mathlib.Omega.{arith}
 use native.Mathlib.Numerals.{add-one}
 use lib.Dec.{leb, ltb, eqb}
-use lib.ListN.{length, getD, set, take, drop, take-append-drop}
-use lib.Seq.{getD-set-same, getD-set-other}
-use borrow.Author.Tests.{ltb-true, ltb-false, leb-true, eqb-true, eqb-false, eq-eqb, ne-eqb, lt-ltb, le-ltb, not-true, not-false}
+use lib.ListN.{length, getD, take, drop, take-append-drop}
+use borrow.Author.Tests.{leb-true, eqb-true, eqb-false, eq-eqb, ne-eqb, lt-ltb, le-ltb, not-true, not-false}
 use Rattle.algebra.specs.Lists.{keep, all, each, isEmpty, upto, Every, done, more}
 use Rattle.algebra.specs.Plan.{Term, copy, add, subtract, Kind}
 use Rattle.algebra.specs.Columns.{Column, termReads, conjunctReads, computationReads, pastOne, past, readsOf, Shape, shapeAt}
 use Rattle.algebra.proofs.Lists.Keep.{map-append}
 use Rattle.algebra.proofs.Lists.Same.{and-left, and-right}
-use Rattle.algebra.proofs.Lists.Every.{every-append, every-unmapped}
+use Rattle.algebra.proofs.Lists.Every.{every-map, every-append, every-unmapped}
 use Rattle.algebra.proofs.Domains.Keys.{upto-all}
 use Rattle.plan.specs.Words.{Three, Item, nodes, operator, left, right, kind, firstItem, itemCount, itemWord, itemAt, itemsFrom, itemsOf}
 use Rattle.plan.specs.Items.{termOf, conjunctOf, computationOf, isConjunct, isComputation, isKey, isOutput, isAggregate, conjunctsIn, termRight, isLocal, isUnused, conjunctRight, computationRight, keyRight, outputRight, aggregateRight}
@@ -22,13 +21,17 @@ use Rattle.plan.specs.Plan.{computationIn, nodeFor, kindOf, widthsOf, no
 use Rattle.plan.specs.Verdict.{usesOf, isOpenTwice, hasRight, inFront, itemsRight}
 use Rattle.plan.specs.Promise.{Sized, Formed}
 use Rattle.plan.specs.Passes.{Counted, Reaches, reach, termReach, itemsReach, nodeReach}
-use Rattle.plan.proofs.Laws.Formed.{by-operator, facts-at, limited, shape-of}
+use Rattle.plan.proofs.Laws.Loops.{empty-nil, by-one}
+use Rattle.plan.proofs.Laws.Numbered.{every-all}
+use Rattle.plan.proofs.Laws.Formed.{by-operator, facts-at, limited, left-below, right-below, right-read, shape-of}
 
 -- ---- terms and items as the code reads them
 
+-- an outer term
 pub outer-reach : {c l code level : ℕ} → c ≡ code → c ≡ 1 → l ≡ level → l + 1 ≡ cond (eqb code 1) (suc level) 0
 outer-reach {c} {l} {code} {level} e h g = rw (eq-eqb code 1 (sym e ∙ h)) (omega arith)
 
+-- another term
 pub inner-reach : {c code : ℕ} (level : ℕ) → c ≡ code → (c ≡ 1 → ⊥) → 0 ≡ cond (eqb code 1) (suc level) 0
 inner-reach {c} {code} level e h = rw (ne-eqb code 1 (λ q. h (e ∙ q)))
 
@@ -36,6 +39,7 @@ inner-reach {c} {code} level e h = rw (ne-eqb code 1 (λ q. h (e ∙ q)))
 abbrev pub itemReach : Item → ℕ
 itemReach x = max (termReach (x .first)) (termReach (x .second))
 
+-- the reach of one item more
 items-snoc : (xs : List Item) (x : Item) → itemsReach (xs ++ (x ∷ [])) ≡ max (itemsReach xs) (itemReach x)
 items-snoc [] x = omega arith
 items-snoc (y ∷ xs) x = omega (arith, items-snoc xs x)
@@ -48,9 +52,9 @@ reach-more f i {r} {a} {b} {u} {v} e g h q t = rw (add-one i, map-append f (upto
 -- ---- items by their sorts
 
 module _ {A : Type 0} {P : A → Type 0} where
+  -- a property of what passes is one of every element, where all pass
   pub all-every : (p : A → Bool) → ((x : A) → p x ≡ true → P x) → (xs : List A) → all p xs ≡ true → Every P xs
-  all-every p f [] e = done
-  all-every p f (x ∷ xs) e = more (f x (and-left (p x) (all p xs) e)) (all-every p f xs (and-right (p x) (all p xs) e))
+  all-every p f xs e = every-map f (every-all p xs e)
 
 -- items of one sort, then of another
 pub front-every : {P : Item → Type 0} (p q : Item → Bool) → ((x : Item) → p x ≡ true → P x) → ((x : Item) → q x ≡ true → P x) → (m : ℕ) (xs : List Item)
@@ -65,7 +69,7 @@ pub items-every : {P : Item → Type 0} → ((x : Item) → conjunctRight x ≡ 
 unfolding itemsRight
 items-every {P} conjunct computation key output aggregate xs =
     by-operator (λ o. itemsRight o xs ≡ true → Every P xs)
-    (nothing xs)
+    (λ e. rw (empty-nil xs e) done)
     (all-every conjunctRight conjunct xs)
     (λ e. all-every computationRight computation xs (and-right (eqb (length xs) 1) _ e))
     (λ e. all-every outputRight output xs (and-right (not (isEmpty xs)) _ e))
@@ -73,13 +77,10 @@ items-every {P} conjunct computation key output aggregate xs =
     (λ e. front-every keyRight aggregateRight key aggregate (length (keep isKey xs)) xs (and-right (not (isEmpty xs)) _ e))
     (λ e. front-every conjunctRight aggregateRight conjunct aggregate (length (keep isConjunct xs)) xs (and-right (ltb (length (keep isConjunct xs)) (length xs)) _ e))
     (all-every conjunctRight conjunct xs)
-  where
-    nothing : (ys : List Item) → isEmpty ys ≡ true → Every P ys
-    nothing [] e = done
-    nothing (y ∷ ys) e = absurd (true≢false (sym e))
 
 -- ---- the terms of well-formed items
 
+-- a local term has code and level 0
 local-code : (t : Three) → isLocal t ≡ true → t .code ≡ 0
 local-code t e = eqb-true (t .code) 0 (and-left (eqb (t .code) 0) (eqb (t .level) 0) e)
 
@@ -92,15 +93,17 @@ unused-local t e = and-left (isLocal t) (eqb (t .value) 0) e
 local-reach : (t : Three) → isLocal t ≡ true → termReach t ≡ 0
 local-reach t e = rw (local-code t e)
 
+-- the level of a local, of an unused and of a used term
 local-low : (t : Three) → isLocal t ≡ true → t .level ≤ 7
 local-low t e = omega (arith, local-level t e)
 
 unused-low : (t : Three) → isUnused t ≡ true → t .level ≤ 7
 unused-low t e = local-low t (unused-local t e)
 
-right-low : (t : Three) → termRight t ≡ true → t .level ≤ 7
+-- a used term
+used-low : (t : Three) → termRight t ≡ true → t .level ≤ 7
 unfolding termRight
-right-low t = go (eqb (t .code) 1) _
+used-low t = go (eqb (t .code) 1) _
   where
     go : (b c : Bool) → cond b (leb (t .level) 7) (eqb (t .level) 0 && c) ≡ true → t .level ≤ 7
     go true c e = leb-true (t .level) 7 e
@@ -122,6 +125,7 @@ three-reach t = go (eqb (t .code) 1) refl
 
 -- ---- reads
 
+-- two lists of columns
 reach-append : (cs ds : List Column) → reach (cs ++ ds) ≡ max (reach cs) (reach ds)
 reach-append [] ds = omega arith
 reach-append (c ∷ cs) ds = omega (arith, reach-append cs ds)
@@ -135,6 +139,7 @@ reach-past (c ∷ cs) = reach-append (pastOne (c .level) (c .position)) (past cs
     go zero p e = omega arith
     go (suc l) p e = omega arith
 
+-- two terms
 two-reach : (s t : Three) → reach (termReads (termOf s) ++ termReads (termOf t)) ≡ max (termReach s) (termReach t)
 two-reach s t = reach-append (termReads (termOf s)) (termReads (termOf t)) ∙ ap₂ max (three-reach s) (three-reach t)
 
@@ -142,6 +147,7 @@ two-reach s t = reach-append (termReads (termOf s)) (termReads (termOf t)) ∙ a
 abbrev Quiet : Item → Type 0
 Quiet x = isConjunct x ≡ false → itemReach x ≡ 0
 
+-- the conjuncts among items that are quiet otherwise
 conjuncts-reach : {xs : List Item} → Every Quiet xs → reach (each conjunctReads (conjunctsIn xs)) ≡ itemsReach xs
 conjuncts-reach done = refl
 conjuncts-reach (more {x} {xs} q t) = go (isConjunct x) refl (conjuncts-reach t)
@@ -151,26 +157,25 @@ conjuncts-reach (more {x} {xs} q t) = go (isConjunct x) refl (conjuncts-reach t)
     go true e h = reach-append (conjunctReads (conjunctOf x)) (each conjunctReads (conjunctsIn xs)) ∙ ap₂ max (two-reach (x .first) (x .second)) h
     go false e h = omega (arith, h, q e)
 
+-- items that reach nothing
 silent-reach : {xs : List Item} → Every (λ x. itemReach x ≡ 0) xs → itemsReach xs ≡ 0
 silent-reach done = refl
 silent-reach (more e t) = omega (arith, e, silent-reach t)
 
 -- ---- the items of an operator
 
+-- of a conjunct nothing is asked
 conjunct-quiet : (x : Item) → conjunctRight x ≡ true → Quiet x
 conjunct-quiet x e q = absurd (true≢false (sym (and-left (isConjunct x) _ e) ∙ q))
 
+-- an item of a local and an unused term reaches nothing
 silent : (x : Item) → isLocal (x .first) ≡ true → isUnused (x .second) ≡ true → itemReach x ≡ 0
 silent x e g = ap₂ max (local-reach (x .first) e) (local-reach (x .second) (unused-local (x .second) g))
 
-key-silent : (x : Item) → keyRight x ≡ true → itemReach x ≡ 0
-key-silent x e =
-    let r = and-right (isKey x) _ e in
-    silent x (and-left (isLocal (x .first)) _ r) (and-right (isLocal (x .first)) _ r)
-
-output-silent : (x : Item) → outputRight x ≡ true → itemReach x ≡ 0
-output-silent x e =
-    let r = and-right (isOutput x) _ e in
+-- so does a key, and an output column
+position-silent : (tag : ℕ) (x : Item) → (eqb (x .tag) tag && (isLocal (x .first) && isUnused (x .second))) ≡ true → itemReach x ≡ 0
+position-silent tag x e =
+    let r = and-right (eqb (x .tag) tag) _ e in
     silent x (and-left (isLocal (x .first)) _ r) (and-right (isLocal (x .first)) _ r)
 
 -- an aggregate's first term is local, and its second unused
@@ -187,6 +192,7 @@ aggregate-unused x e = and-right (cond (eqb (x .tag) 13) (isUnused (x .first)) (
 aggregate-silent : (x : Item) → aggregateRight x ≡ true → itemReach x ≡ 0
 aggregate-silent x e = silent x (aggregate-local x e) (aggregate-unused x e)
 
+-- a computation
 computation-reach : (x : Item) → computationRight x ≡ true → reach (computationReads (computationOf x)) ≡ itemReach x
 unfolding computationOf
 computation-reach x e = go (eqb (x .tag) 8) (eqb (x .tag) 9) (and-right (termRight (x .first)) _ (and-right (isComputation x) _ e))
@@ -197,33 +203,30 @@ computation-reach x e = go (eqb (x .tag) 8) (eqb (x .tag) 9) (and-right (termRig
     go false true h = two-reach (x .first) (x .second)
     go false false h = two-reach (x .first) (x .second)
 
+-- the one computation of a node
 compute-reach : (xs : List Item) → length xs ≡ 1 → all computationRight xs ≡ true → reach (computationReads (computationIn xs)) ≡ itemsReach xs
-compute-reach [] l e = absurd (omega arith)
-compute-reach (x ∷ []) l e = omega (arith, computation-reach x (and-left (computationRight x) true e))
-compute-reach (x ∷ y ∷ xs) l e = absurd (omega arith)
+compute-reach =
+    by-one (λ xs. all computationRight xs ≡ true → reach (computationReads (computationIn xs)) ≡ itemsReach xs) (λ x e. omega (arith, computation-reach x (and-left (computationRight x) true e)))
 
 -- the reach of a node with operator o whose items reach own, from those of its inputs
 abbrev pub reachBy : ℕ → ℕ → ℕ → ℕ → ℕ
 reachBy o own l r = cond (eqb o 1) own (cond (hasRight o) (max (max own l) (cond (eqb o 8) (pred r) r)) (max own l))
 
 module _ (at : ℕ → List Column) (l r : ℕ) (k : Kind) (xs : List Item) where
+  -- what a node reads, by operator
   node-reads : (o : ℕ) → 1 ≤ o → o ≤ 8 → itemsRight o xs ≡ true → reach (readsOf at (nodeFor o l r k xs)) ≡ reachBy o (itemsReach xs) (reach (at l)) (reach (at r))
   unfolding nodeFor itemsRight
   node-reads =
       by-operator (λ o. itemsRight o xs ≡ true → reach (readsOf at (nodeFor o l r k xs)) ≡ reachBy o (itemsReach xs) (reach (at l)) (reach (at r)))
-      (nothing xs)
+      (λ e. sym (ap itemsReach (empty-nil xs e)))
       (λ e. one (conjuncts e))
       (λ e. reach-append (computationReads (computationIn xs)) (at l) ∙ ap (λ (q : ℕ). max q (reach (at l))) (compute-reach xs (eqb-true _ _ (and-left (eqb (length xs) 1) _ e)) (and-right (eqb (length xs) 1) _ e)))
-      (λ e. omega (arith, silent-reach (all-every outputRight output-silent xs (and-right (not (isEmpty xs)) _ e))))
+      (λ e. omega (arith, silent-reach (all-every outputRight (position-silent 12) xs (and-right (not (isEmpty xs)) _ e))))
       (λ e. two (conjuncts e))
-      (λ e. omega (arith, silent-reach (front-every keyRight aggregateRight key-silent aggregate-silent (length (keep isKey xs)) xs (and-right (not (isEmpty xs)) _ e))))
+      (λ e. omega (arith, silent-reach (front-every keyRight aggregateRight (position-silent 11) aggregate-silent (length (keep isKey xs)) xs (and-right (not (isEmpty xs)) _ e))))
       (λ e. two (front-every conjunctRight aggregateRight conjunct-quiet (λ x h q. aggregate-silent x h) (length (keep isConjunct xs)) xs (and-right (ltb (length (keep isConjunct xs)) (length xs)) _ e)))
       (λ e. over (conjuncts e))
     where
-      nothing : (ys : List Item) → isEmpty ys ≡ true → 0 ≡ itemsReach ys
-      nothing [] e = refl
-      nothing (y ∷ ys) e = absurd (true≢false (sym e))
-
       conjuncts : all conjunctRight xs ≡ true → Every Quiet xs
       conjuncts = all-every conjunctRight conjunct-quiet xs
 
@@ -238,25 +241,27 @@ module _ (at : ℕ → List Column) (l r : ℕ) (k : Kind) (xs : List Item) wher
 
 -- ---- levels
 
+-- both levels of an item are at most 7
 abbrev Low : Item → Type 0
 Low x = (x .first .level ≤ 7) × (x .second .level ≤ 7)
 
+-- the items of a right node have such levels
 items-low : (xs : List Item) (o : ℕ) → 1 ≤ o → o ≤ 8 → itemsRight o xs ≡ true → Every Low xs
 items-low = items-every conjunct computation (λ x e. column x (and-right (isKey x) _ e)) (λ x e. column x (and-right (isOutput x) _ e)) (λ x e. (local-low (x .first) (aggregate-local x e), unused-low (x .second) (aggregate-unused x e)))
   where
     conjunct : (x : Item) → conjunctRight x ≡ true → Low x
     conjunct x e =
         let r = and-right (isConjunct x) _ e in
-        (right-low (x .first) (and-left (termRight (x .first)) _ r), right-low (x .second) (and-right (termRight (x .first)) _ r))
+        (used-low (x .first) (and-left (termRight (x .first)) _ r), used-low (x .second) (and-right (termRight (x .first)) _ r))
 
     second : (x : Item) (b : Bool) → cond b (isUnused (x .second)) (termRight (x .second)) ≡ true → x .second .level ≤ 7
     second x true e = unused-low (x .second) e
-    second x false e = right-low (x .second) e
+    second x false e = used-low (x .second) e
 
     computation : (x : Item) → computationRight x ≡ true → Low x
     computation x e =
         let r = and-right (isComputation x) _ e in
-        (right-low (x .first) (and-left (termRight (x .first)) _ r), second x (eqb (x .tag) 8) (and-right (termRight (x .first)) _ r))
+        (used-low (x .first) (and-left (termRight (x .first)) _ r), second x (eqb (x .tag) 8) (and-right (termRight (x .first)) _ r))
 
     column : (x : Item) → (isLocal (x .first) && isUnused (x .second)) ≡ true → Low x
     column x r = (local-low (x .first) (and-left (isLocal (x .first)) _ r), unused-low (x .second) (and-right (isLocal (x .first)) _ r))
@@ -273,34 +278,38 @@ module _ (ws : List ℕ) (f : Formed ws) (n : ℕ) (h : n < nodes ws) where
 
   -- inputs are nodes
   module _ {o : ℕ} (eo : o ≡ operator ws n) where
+    -- its left input
     pub left-in : (o ≡ 1 → ⊥) → {l i : ℕ} → l ≡ left ws n → i ≡ l → i < 256
-    left-in q e g = omega (arith, facts-at ws f n h .left-node (λ p. q (eo ∙ p)), limited ws (f .sized) .nodes-few)
+    left-in q e g = omega (arith, left-below ws f n h eo q e g, limited ws (f .sized) .nodes-few)
 
+    -- its right input
     pub right-in : {b : Bool} → b ≡ hasRight o → not b ≡ false → {r i : ℕ} → r ≡ right ws n → i ≡ r → i < 256
-    right-in {b} q p e g = omega (arith, facts-at ws f n h .right-node (ap hasRight (sym eo) ∙ sym q ∙ not-false b p), limited ws (f .sized) .nodes-few)
+    right-in {b} q p e g = omega (arith, right-below ws f n h eo (sym q ∙ not-false b p) e g, limited ws (f .sized) .nodes-few)
 
 -- ---- a node as the code reads it
 
 module _ (ws : List ℕ) (n : ℕ) (at : ℕ → ℕ) {o a m own : ℕ} (eo : o ≡ operator ws n) (ea : a ≡ firstItem ws n) (em : m ≡ itemCount ws n)
     (ew : own ≡ itemsReach (itemsFrom ws a m)) where
+  -- the reach of the node's own items
   own-is : own ≡ itemsReach (itemsOf ws n)
   own-is = rw (ea, em) at ew
 
+  -- a scan
   pub scan-reach : o ≡ 1 → own ≡ nodeReach ws at n
   scan-reach h = rw (eq-eqb (operator ws n) 1 (sym eo ∙ h)) own-is
 
   -- x is the larger of its own and its left input's
   module _ (h : o ≡ 1 → ⊥) {l i x : ℕ} (el : l ≡ left ws n) (ei : i ≡ l) (ex : x ≡ max own (at i)) {b : Bool} (eb : b ≡ hasRight o) where
+    -- its own and its left input's
     left-is : x ≡ max (itemsReach (itemsOf ws n)) (at (left ws n))
     left-is = ex ∙ ap₂ max own-is (ap at (ei ∙ el))
 
-    tested : (c : Bool) → b ≡ c → hasRight (operator ws n) ≡ c
-    tested c q = ap hasRight (sym eo) ∙ sym eb ∙ q
-
+    -- a node with one input
     pub one-reach : not b ≡ true → x ≡ nodeReach ws at n
-    one-reach q = rw (ne-eqb (operator ws n) 1 (λ p. h (eo ∙ p)), tested false (not-true b q)) left-is
+    one-reach q = rw (ne-eqb (operator ws n) 1 (λ p. h (eo ∙ p)), right-read ws n eo eb (not-true b q)) left-is
 
     module _ (q : not b ≡ false) {r j : ℕ} (er : r ≡ right ws n) (ej : j ≡ r) where
+      -- its right input's
       right-is : at j ≡ at (right ws n)
       right-is = ap at (ej ∙ er)
 
@@ -316,8 +325,9 @@ module _ (ws : List ℕ) (n : ℕ) (at : ℕ → ℕ) {o a m own : ℕ} (eo : o 
           let sum : x ≡ max (max (itemsReach (itemsOf ws n)) (at (left ws n))) (pred (at (right ws n))) = omega (arith, left-is, right-is) in
           rw (sym eo ∙ e) sum
 
+      -- another node with two inputs
       pub both-reach : (o ≡ 8 → ⊥) → {y : ℕ} → y ≡ max x (at j) → y ≡ nodeReach ws at n
-      both-reach e g = rw (ne-eqb (operator ws n) 1 (λ p. h (eo ∙ p)), tested true (not-false b q), ne-eqb (operator ws n) 8 (λ p. e (eo ∙ p))) (omega (arith, left-is, right-is))
+      both-reach e g = rw (ne-eqb (operator ws n) 1 (λ p. h (eo ∙ p)), right-read ws n eo eb (not-false b q), ne-eqb (operator ws n) 8 (λ p. e (eo ∙ p))) (omega (arith, left-is, right-is))
 
 -- ---- all nodes
 
@@ -341,44 +351,30 @@ reach-of ws f n h at before =
     ∙ sym (node-reads (λ i. shape i .reads) (left ws n) (right ws n) (kindOf (kind ws n)) (itemsOf ws n) (operator ws n) (facts .low) (facts .high) (facts .sorts))
     ∙ sym (ap (λ (s : Shape). reach (s .reads)) (shape-of ws f n h))
 
--- one entry more of a table
-pub table-more : (table : List ℕ) (n : ℕ) (meant : ℕ → ℕ) {i v : ℕ} → ((m : ℕ) → m < n → getD table m 0 ≡ meant m) → n < length table → i ≡ n → v ≡ meant n
-    → (m : ℕ) → m < n + 1 → getD (set table i v) m 0 ≡ meant m
-table-more table n meant {i} {v} before l q e m h = rw q (go (ltb m n) refl)
-  where
-    go : (b : Bool) → ltb m n ≡ b → getD (set table n v) m 0 ≡ meant m
-    go true t = let less : m < n = ltb-true m n t in getD-set-other table n m v 0 (omega arith) ∙ before m less
-    go false t = let same : m ≡ n = omega (arith, ltb-false m n t) in rw same (getD-set-same table n v 0 l ∙ e)
-
 -- ---- open nodes
 
 -- a node is open where its reach is not 0
-open-reach : (cs : List Column) → 0 < reach cs → not (isEmpty cs) ≡ true
-open-reach [] h = absurd (omega arith)
-open-reach (c ∷ cs) h = refl
-
-closed-reach : (cs : List Column) → reach cs ≤ 0 → not (isEmpty cs) ≡ false
-closed-reach [] h = refl
-closed-reach (c ∷ cs) h = absurd (omega arith)
+pub reach-open : (cs : List Column) → ltb 0 (reach cs) ≡ not (isEmpty cs)
+reach-open [] = refl
+reach-open (c ∷ cs) = lt-ltb 0 (reach (c ∷ cs)) (omega arith)
 
 -- as the code reads node n's reach and uses
 module _ (ws uses reaches : List ℕ) (sized : Sized ws) (counted : Counted ws uses) (reached : Reaches ws reaches) (n : ℕ) (h : n < nodes ws) {i : ℕ} (e : i ≡ n) where
-  reach-is : getD reaches i 0 ≡ reach (shapeAt (widthsOf ws) (nodesOf ws) n .reads)
-  reach-is = rw e (reached n h)
+  -- the node is open where the table has a reach
+  open-is : not (isEmpty (shapeAt (widthsOf ws) (nodesOf ws) n .reads)) ≡ ltb 0 (getD reaches i 0)
+  open-is = rw (e, reached n h) (sym (reach-open (shapeAt (widthsOf ws) (nodesOf ws) n .reads)))
 
+  -- how often the table says it is used
   uses-are : {j : ℕ} → j ≡ n → getD uses j 0 ≡ usesOf ws n
   uses-are q = rw q (counted n (omega (arith, limited ws sized .nodes-few)))
 
+  -- a closed node
   pub closed-node : getD reaches i 0 ≤ 0 → isOpenTwice ws n ≡ false
-  closed-node g = rw (closed-reach (shapeAt (widthsOf ws) (nodesOf ws) n .reads) (omega (arith, reach-is)))
+  closed-node g = rw (open-is, le-ltb 0 (getD reaches i 0) g)
 
   module _ (g : 0 < getD reaches i 0) {j : ℕ} (q : j ≡ n) where
     pub open-twice : 1 < getD uses j 0 → isOpenTwice ws n ≡ true
-    open-twice t =
-        rw (open-reach (shapeAt (widthsOf ws) (nodesOf ws) n .reads) (omega (arith, reach-is)))
-        (lt-ltb 1 (usesOf ws n) (omega (arith, uses-are q)))
+    open-twice t = rw (open-is, lt-ltb 0 (getD reaches i 0) g) (lt-ltb 1 (usesOf ws n) (omega (arith, uses-are q)))
 
     pub open-once : getD uses j 0 ≤ 1 → isOpenTwice ws n ≡ false
-    open-once t =
-        rw (open-reach (shapeAt (widthsOf ws) (nodesOf ws) n .reads) (omega (arith, reach-is)))
-        (le-ltb 1 (usesOf ws n) (omega (arith, uses-are q)))
+    open-once t = rw (open-is, lt-ltb 0 (getD reaches i 0) g) (le-ltb 1 (usesOf ws n) (omega (arith, uses-are q)))

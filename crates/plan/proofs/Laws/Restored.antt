@@ -14,7 +14,7 @@ use Rattle.plan.specs.Encoding.{unsigned, testTag}
 use Rattle.plan.proofs.Laws.Header.{both, between-says, between-fails}
 use Rattle.plan.proofs.Laws.Numbered.{in-range}
 use Rattle.plan.proofs.Laws.Written.{three, threeOf, conjunctItem, computationItem, positionItem, aggregateItem}
-use Rattle.plan.proofs.Laws.Decoded.{signed-low, signed-high}
+use Rattle.plan.proofs.Laws.Terms.{signed-low, signed-high}
 
 -- the values of both terms are words
 abbrev pub Narrow : Item → Type 0
@@ -22,6 +22,7 @@ Narrow x = (x .first .value < 2 ^ 32) × (x .second .value < 2 ^ 32)
 
 -- ---- terms
 
+-- a constant read and written again is the same word
 constant-again : (x : ℕ) → x < 2 ^ 32 → unsigned (signed x) ≡ x
 constant-again x h = go (ltb x (2 ^ 31)) refl
   where
@@ -31,6 +32,7 @@ constant-again x h = go (ltb x (2 ^ 31)) refl
         let p : 2 ^ 32 - 1 - (2 ^ 32 - 1 - x) ≡ x = omega arith in
         ap unsigned (signed-high x (ltb-false x (2 ^ 31) e)) ∙ p
 
+-- a used term has one of four codes
 code-few : (t : Three) → termRight t ≡ true → t .code ≤ 3
 unfolding termRight
 code-few t e = go (leb c 3) refl
@@ -44,6 +46,7 @@ code-few t e = go (leb c 3) refl
         let l = leb-false c 3 f in
         absurd (true≢false (sym (and-right (eqb (t .level) 0) false (rw (ne-eqb c 1 (λ q. omega arith), ne-eqb c 0 (λ q. omega arith), ne-eqb c 2 (λ q. omega arith), ne-eqb c 3 (λ q. omega arith)) at e))))
 
+-- a used term
 three-again : (t : Three) → termRight t ≡ true → t .value < 2 ^ 32 → threeOf (termOf t) ≡ t
 unfolding termOf termRight
 three-again t e h =
@@ -73,6 +76,7 @@ three-again t e h =
     null : Again 3
     null f = λ i. three 3 (no-level (eqb v 0) f i) (sym (eqb-true v 0 (and-right (eqb l 0) (eqb v 0) f)) i)
 
+-- a local term
 local-again : (t : Three) → isLocal t ≡ true → three 0 0 (t .value) ≡ t
 local-again t e =
     let h = both _ _ e in
@@ -89,6 +93,7 @@ unused-again t e = let h = both _ _ e in ap (three 0 0) (sym (eqb-true _ _ (h .1
 abbrev item : ℕ → Three → Three → Item
 item tag a b = record { tag = tag; first = a; second = b }
 
+-- the tag of a conjunct
 tag-again : (tag : ℕ) → between 1 7 tag ≡ true → testTag (testOf tag) ≡ tag
 unfolding testOf
 tag-again tag e =

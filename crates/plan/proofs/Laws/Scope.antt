@@ -1,70 +1,61 @@
 -- The join around each node, and the rows that stand there.
 use mathlib.Core.Path.{_≡_, refl, sym, ap, _∙_}
-use mathlib.Core.Bool.{Bool, true, false, not, cond, _&&_, true≢false, and-false}
+use mathlib.Core.Bool.{Bool, true, false, cond, _&&_, true≢false, and-false}
 use mathlib.Core.List.{List, [], _∷_}
 use Prim.Native.Nat.{ℕ, zero, suc, _+_, _-_, _≤_, _<_}
 use native.Mathlib.Omega.{arith}
 use lib.Dec.{leb, ltb, eqb, leb·zero}
 use lib.ListN.{length, getD, set, replicate, length-set, getD-replicate}
 use lib.Seq.{getD-set-same, getD-set-other}
-use borrow.Author.Tests.{ltb-true, ltb-false, leb-true, leb-false, lt-ltb, le-ltb, le-leb, lt-leb, eqb-true, eqb-false, eq-eqb, ne-eqb}
-use Rattle.algebra.specs.Lists.{keep, any, upto, isEmpty, Every, done, more}
+use borrow.Author.Tests.{ltb-true, leb-true, leb-false, lt-ltb, le-ltb, le-leb, lt-leb, eqb-true, eqb-false, eq-eqb, ne-eqb}
+use Rattle.algebra.specs.Lists.{keep, any, upto, Every, done, more}
 use Rattle.algebra.specs.Plan.{inputs}
-use Rattle.algebra.specs.Columns.{Column, shapeAt}
-use Rattle.algebra.proofs.Lists.Every.{every-map, every-at, every-kept}
-use Rattle.algebra.proofs.Lists.Keep.{keep-same, keep-none}
+use Rattle.algebra.specs.Columns.{shapeAt}
+use Rattle.algebra.proofs.Lists.Every.{every-map}
+use Rattle.algebra.proofs.Lists.Keep.{keep-none}
 use Rattle.algebra.proofs.Lists.Same.{and-left, and-right}
 use Rattle.algebra.proofs.Domains.Keys.{upto-below}
 use Rattle.plan.specs.Words.{nodes, operator, left, right}
 use Rattle.plan.specs.Plan.{nodeAt, widthsOf, nodesOf}
-use Rattle.plan.specs.Verdict.{lowest, hasRight, widthAt, isOpen, userOf, isRightSide, scope, scopeOf}
+use Rattle.plan.specs.Verdict.{lowest, hasRight, widthAt, isOpen, userOf, isRightSide, scopeOf}
 use Rattle.plan.specs.Promise.{Formed}
-use Rattle.plan.specs.Passes.{reach, Reaches, Widths, Joins, InPlan}
-use Rattle.plan.proofs.Laws.Loops.{lowest-found, lowest-none}
-use Rattle.plan.proofs.Laws.Formed.{limited, facts-at, inputs-at, inputs-below}
-
--- ---- the lowest number that passes
-
-lowest-passes : (p : ℕ → Bool) (n : ℕ) → lowest p n < n → p (lowest p n) ≡ true
-lowest-passes p n =
-    every-at {P = λ k. k < n → p k ≡ true} n (λ h. absurd (omega arith)) (every-map (λ k (e : p k ≡ true) (h : k < n). e) (every-kept p (upto n))) 0
-
-lowest-same : (p q : ℕ → Bool) (n : ℕ) → ((k : ℕ) → p k ≡ q k) → lowest p n ≡ lowest q n
-lowest-same p q n f = ap (λ (ks : List ℕ). getD ks 0 n) (keep-same p q (upto n) f)
+use Rattle.plan.specs.Passes.{Reaches, Joins, InPlan}
+use Rattle.plan.proofs.Laws.Loops.{lowest-found, lowest-none, lowest-passes, lowest-same}
+use Rattle.plan.proofs.Laws.Header.{refuted}
+use Rattle.plan.proofs.Laws.Formed.{limited, inputs-at, inputs-below}
+use Rattle.plan.proofs.Laws.Reach.{reach-open}
+use Rattle.plan.proofs.Laws.Users.{every-found, takes, user-above, scope-once}
 
 -- ---- the users of a node
 
 module _ (ws : List ℕ) where
-  -- q has m as an input
-  abbrev pub isUser : ℕ → ℕ → Bool
-  isUser m q = any (eqb m) (inputs (nodeAt ws q))
-
   -- the first node from p on that has m as an input
   unfoldable pub userFrom : ℕ → ℕ → ℕ
-  userFrom p m = lowest (λ q. leb p q && isUser m q) (nodes ws)
+  userFrom p m = lowest (λ q. leb p q && takes (nodeAt ws) m q) (nodes ws)
 
 module _ (ws : List ℕ) (m : ℕ) where
   -- a user from p on
-  user-above : (p : ℕ) → userFrom ws p m < nodes ws → p ≤ userFrom ws p m
+  user-from : (p : ℕ) → userFrom ws p m < nodes ws → p ≤ userFrom ws p m
   unfolding userFrom
-  user-above p h = leb-true p _ (and-left (leb p (userFrom ws p m)) _ (lowest-passes (λ q. leb p q && isUser ws m q) (nodes ws) h))
+  user-from p h = leb-true p _ (and-left (leb p (userFrom ws p m)) _ (lowest-passes (λ q. leb p q && takes (nodeAt ws) m q) (nodes ws) h))
 
-  none-below : (p : ℕ) → keep (λ q. leb p q && isUser ws m q) (upto p) ≡ []
-  none-below p = keep-none (λ q. leb p q && isUser ws m q) (every-map (λ q (h : q < p). rw (lt-leb p q h)) (upto-below p))
+  -- no user below p is counted
+  none-below : (p : ℕ) → keep (λ q. leb p q && takes (nodeAt ws) m q) (upto p) ≡ []
+  none-below p = keep-none (λ q. leb p q && takes (nodeAt ws) m q) (every-map (λ q (h : q < p). rw (lt-leb p q h)) (upto-below p))
 
   -- p itself
-  user-here : (p : ℕ) → p < nodes ws → isUser ws m p ≡ true → userFrom ws p m ≡ p
+  user-here : (p : ℕ) → p < nodes ws → takes (nodeAt ws) m p ≡ true → userFrom ws p m ≡ p
   unfolding userFrom
-  user-here p h e = sym (lowest-found (λ q. leb p q && isUser ws m q) p (nodes ws) (none-below p) (rw (le-leb p p (omega arith)) e) h)
+  user-here p h e = sym (lowest-found (λ q. leb p q && takes (nodeAt ws) m q) p (nodes ws) (none-below p) (rw (le-leb p p (omega arith)) e) h)
 
   -- not p
-  user-next : (p : ℕ) → isUser ws m p ≡ false → userFrom ws p m ≡ userFrom ws (p + 1) m
+  user-next : (p : ℕ) → takes (nodeAt ws) m p ≡ false → userFrom ws p m ≡ userFrom ws (p + 1) m
   unfolding userFrom
-  user-next p e = lowest-same (λ q. leb p q && isUser ws m q) (λ q. leb (p + 1) q && isUser ws m q) (nodes ws) (λ q. go q (eqb p q) refl)
+  user-next p e = lowest-same (λ q. leb p q && takes (nodeAt ws) m q) (λ q. leb (p + 1) q && takes (nodeAt ws) m q) (nodes ws) (λ q. go q (eqb p q) refl)
     where
-      go : (q : ℕ) (b : Bool) → eqb p q ≡ b → (leb p q && isUser ws m q) ≡ (leb (p + 1) q && isUser ws m q)
+      go : (q : ℕ) (b : Bool) → eqb p q ≡ b → (leb p q && takes (nodeAt ws) m q) ≡ (leb (p + 1) q && takes (nodeAt ws) m q)
       go q true t = let s : p ≡ q = eqb-true p q t in rw (sym s, e, and-false (leb p p), and-false (leb (p + 1) p))
-      go q false t = ap (λ (b : Bool). b && isUser ws m q) (same (leb p q) refl)
+      go q false t = ap (λ (b : Bool). b && takes (nodeAt ws) m q) (same (leb p q) refl)
         where
           same : (b : Bool) → leb p q ≡ b → leb p q ≡ leb (p + 1) q
           same true h = h ∙ sym (le-leb (p + 1) q (omega (arith, leb-true p q h, eqb-false p q t)))
@@ -73,19 +64,18 @@ module _ (ws : List ℕ) (m : ℕ) where
   -- no node from the last on
   user-none : userFrom ws (nodes ws) m ≡ nodes ws
   unfolding userFrom
-  user-none = sym (lowest-none (λ q. leb (nodes ws) q && isUser ws m q) (nodes ws) (none-below (nodes ws)))
+  user-none = sym (lowest-none (λ q. leb (nodes ws) q && takes (nodeAt ws) m q) (nodes ws) (none-below (nodes ws)))
 
   -- from the first on
   user-first : userFrom ws 0 m ≡ userOf ws m
   unfolding userFrom
-  user-first = lowest-same (λ q. leb 0 q && isUser ws m q) (isUser ws m) (nodes ws) (λ q. rw (leb·zero q))
+  user-first = lowest-same (λ q. leb 0 q && takes (nodeAt ws) m q) (takes (nodeAt ws) m) (nodes ws) (λ q. rw (leb·zero q))
 
 -- ---- the table of joins
 
 -- a number above a list's is not in the list
 none-from : (p u : ℕ) → p ≤ u → {is : List ℕ} → Every (λ j. j < p) is → any (eqb u) is ≡ false
-none-from p u h done = refl
-none-from p u h (more {x} g t) = rw (ne-eqb u x (λ e. omega arith)) (none-from p u h t)
+none-from p u h {is} t = sym (refuted (any (eqb u) is) (λ e. omega (arith, every-found {P = λ j. j < p} u t e)))
 
 -- what the table has for m, whose user is u
 unfoldable pub around : List ℕ → List ℕ → List ℕ → ℕ → ℕ → ℕ
@@ -107,6 +97,7 @@ module _ (ws reaches : List ℕ) (p : ℕ) where
   enteredAll (i ∷ is) joins = enteredAll is (entered i joins)
 
 module _ (ws reaches : List ℕ) (p : ℕ) where
+  -- the table keeps its length
   entered-long : (i : ℕ) (joins : List ℕ) → length (entered ws reaches p i joins) ≡ length joins
   unfolding entered
   entered-long i joins = go (ltb 0 (getD reaches i 0))
@@ -115,6 +106,7 @@ module _ (ws reaches : List ℕ) (p : ℕ) where
       go true = length-set joins i _
       go false = refl
 
+  -- an entry once input i is entered
   entered-at : (i m : ℕ) (joins : List ℕ) → i < length joins
       → getD (entered ws reaches p i joins) m 0 ≡ cond (eqb m i && ltb 0 (getD reaches m 0)) (cond (isRightSide ws p m) p (getD joins p 0)) (getD joins m 0)
   unfolding entered
@@ -136,6 +128,7 @@ module _ (ws reaches : List ℕ) (p : ℕ) where
       same true e = let q : m ≡ i = eqb-true m i e in rw q (here (ltb 0 (getD reaches i 0)))
       same false e = away (ltb 0 (getD reaches i 0)) (eqb-false m i e)
 
+  -- the table keeps its length
   all-long : (is joins : List ℕ) → length (enteredAll ws reaches p is joins) ≡ length joins
   unfolding enteredAll
   all-long [] joins = refl
@@ -149,6 +142,7 @@ module _ (ws reaches : List ℕ) (p : ℕ) where
   glue true false false v x = refl
   glue false b read v x = refl
 
+  -- an entry once all inputs are entered
   all-at : {is : List ℕ} → Every (λ j. j < p) is → (m : ℕ) (joins : List ℕ) → p < length joins
       → getD (enteredAll ws reaches p is joins) m 0 ≡ cond (any (eqb m) is && ltb 0 (getD reaches m 0)) (cond (isRightSide ws p m) p (getD joins p 0)) (getD joins m 0)
   unfolding enteredAll
@@ -177,7 +171,7 @@ module _ (ws reaches : List ℕ) (f : Formed ws) (p : ℕ) (h : p < nodes ws) wh
       inside = omega (arith, few, e .long)
 
       -- what an entry is, and that those from p on are kept
-      is : (m : ℕ) → getD after m 0 ≡ cond (isUser ws m p && ltb 0 (getD reaches m 0)) (cond (isRightSide ws p m) p (getD joins p 0)) (getD joins m 0)
+      is : (m : ℕ) → getD after m 0 ≡ cond (takes (nodeAt ws) m p && ltb 0 (getD reaches m 0)) (cond (isRightSide ws p m) p (getD joins p 0)) (getD joins m 0)
       is m = all-at ws reaches p below m joins inside
 
       kept : (u : ℕ) → p ≤ u → getD after u 0 ≡ getD joins u 0
@@ -197,21 +191,24 @@ module _ (ws reaches : List ℕ) (f : Formed ws) (p : ℕ) (h : p < nodes ws) wh
           go false t = rw (and-false (ltb 0 (getD reaches m 0)))
 
       at : (m : ℕ) → m < nodes ws → getD after m 0 ≡ around ws reaches after (userFrom ws p m) m
-      at m l = go (isUser ws m p) refl
+      at m l = go (takes (nodeAt ws) m p) refl
         where
-          go : (b : Bool) → isUser ws m p ≡ b → getD after m 0 ≡ around ws reaches after (userFrom ws p m) m
+          go : (b : Bool) → takes (nodeAt ws) m p ≡ b → getD after m 0 ≡ around ws reaches after (userFrom ws p m) m
           go true t = is m ∙ rw (t, user-here ws m p h t) (mine m (ltb 0 (getD reaches m 0)) refl l)
           go false t =
-              is m ∙ rw (t, user-next ws m p t) (e .at m l ∙ others m (userFrom ws (p + 1) m) (user-above ws m (p + 1)))
+              is m ∙ rw (t, user-next ws m p t) (e .at m l ∙ others m (userFrom ws (p + 1) m) (user-from ws m (p + 1)))
 
 -- the join around input i of node p
 module _ (ws : List ℕ) (p i j o : ℕ) (e : o ≡ operator ws p) where
+  -- a dependent join whose right side it is
   pub around-side : (r : ℕ) → o ≡ 8 → r ≡ right ws p → r ≡ i → p ≡ cond (isRightSide ws p i) p j
   around-side r h d t = rw (eq-eqb (operator ws p) 8 (sym e ∙ h), eq-eqb (right ws p) i (sym d ∙ t))
 
+  -- another input of a node
   pub around-left : (r : ℕ) → r ≡ right ws p → (r ≡ i → ⊥) → j ≡ cond (isRightSide ws p i) p j
   around-left r d t = rw (ne-eqb (right ws p) i (λ q. t (d ∙ q)), and-false (eqb (operator ws p) 8))
 
+  -- an input of another operator
   pub around-plain : (o ≡ 8 → ⊥) → j ≡ cond (isRightSide ws p i) p j
   around-plain h = rw (ne-eqb (operator ws p) 8 (λ q. h (e ∙ q)))
 
@@ -227,10 +224,12 @@ joins-start ws reaches p f e = record { long = refl; at = at }
 
 -- an input is entered where it is open
 module _ (ws reaches joins : List ℕ) (p i w : ℕ) (e : w ≡ i) where
+  -- a closed input
   pub enter-closed : getD reaches w 0 ≤ 0 → joins ≡ entered ws reaches p i joins
   unfolding entered
   enter-closed h = rw (le-ltb 0 (getD reaches i 0) (rw e at h))
 
+  -- an open one
   pub enter-open : (v r : ℕ) → v ≡ i → 0 < getD reaches w 0 → r ≡ cond (isRightSide ws p i) p (getD joins p 0) → set joins v r ≡ entered ws reaches p i joins
   unfolding entered
   enter-open v r d h q = rw (lt-ltb 0 (getD reaches i 0) (rw e at h), d, q)
@@ -240,13 +239,16 @@ abbrev pub leftEntered : List ℕ → List ℕ → ℕ → List ℕ → List ℕ
 leftEntered ws reaches p joins = cond (eqb (operator ws p) 1) joins (entered ws reaches p (left ws p) joins)
 
 module _ (ws reaches joins : List ℕ) (p o : ℕ) (q : o ≡ operator ws p) where
+  -- a scan has none
   pub left-none : o ≡ 1 → joins ≡ leftEntered ws reaches p joins
   left-none e = rw (eq-eqb (operator ws p) 1 (sym q ∙ e))
 
+  -- another node has one
   pub left-done : (after : List ℕ) (i : ℕ) → (o ≡ 1 → ⊥) → i ≡ left ws p → after ≡ entered ws reaches p i joins → after ≡ leftEntered ws reaches p joins
   left-done after i n d e = rw (ne-eqb (operator ws p) 1 (λ t. n (q ∙ t)), sym d) e
 
 module _ (ws reaches joins : List ℕ) (f : Formed ws) (q : ℕ) (some : 0 < q) (h : q ≤ nodes ws) (e : Entered ws reaches joins q) where
+  -- the table once node q - 1 is entered
   entered-before : (after : List ℕ) → after ≡ enteredAll ws reaches (q - 1) (inputs (nodeAt ws (q - 1))) joins → Entered ws reaches after (q - 1)
   entered-before after d =
       let s : q ≡ q - 1 + 1 = omega arith in
@@ -279,50 +281,7 @@ module _ (ws reaches joins : List ℕ) (f : Formed ws) (q : ℕ) (some : 0 < q) 
 pub joins-all : (ws reaches joins : List ℕ) (p : ℕ) → p ≤ 0 → Entered ws reaches joins p → Entered ws reaches joins 0
 joins-all ws reaches joins p h e = let q : p ≡ 0 = omega arith in rw q at e
 
--- the inputs of node n, as the code reads them, are below it
-module _ (ws : List ℕ) (f : Formed ws) (n : ℕ) (h : n < nodes ws) (o i w : ℕ) (e : o ≡ operator ws n) where
-  pub left-below : (o ≡ 1 → ⊥) → i ≡ left ws n → w ≡ i → w < n
-  left-below q d t = omega (arith, facts-at ws f n h .left-node (λ s. q (e ∙ s)))
-
-  pub right-below : hasRight o ≡ true → i ≡ right ws n → w ≡ i → w < n
-  right-below q d t = omega (arith, facts-at ws f n h .right-node (rw (sym e) q))
-
 -- ---- the rows around a node
-
--- open is a reach above 0
-reach-open : (cs : List Column) → ltb 0 (reach cs) ≡ not (isEmpty cs)
-reach-open [] = refl
-reach-open (c ∷ cs) = lt-ltb 0 (reach (c ∷ cs)) (omega arith)
-
-module _ (ws : List ℕ) (f : Formed ws) where
-  -- a user stands above what it uses
-  user-later : (m : ℕ) → userOf ws m < nodes ws → m < userOf ws m
-  user-later m h = go (ltb m (userOf ws m)) refl
-    where
-      uses : isUser ws m (userOf ws m) ≡ true
-      uses = lowest-passes (isUser ws m) (nodes ws) h
-
-      go : (b : Bool) → ltb m (userOf ws m) ≡ b → m < userOf ws m
-      go true t = ltb-true m (userOf ws m) t
-      go false t = absurd (true≢false (sym uses ∙ none-from (userOf ws m) m (ltb-false m (userOf ws m) t) (inputs-below ws f (userOf ws m) h)))
-
-  -- fuel for the nodes above is enough
-  scope-fuel : (a b m : ℕ) → nodes ws ≤ m + a → nodes ws ≤ m + b → m < nodes ws → scope ws a m ≡ scope ws b m
-  unfolding scope
-  scope-fuel zero b m g h l = absurd (omega arith)
-  scope-fuel (suc a) zero m g h l = absurd (omega arith)
-  scope-fuel (suc a) (suc b) m g h l = go (isOpen ws m && ltb (userOf ws m) (nodes ws)) refl (scope-fuel a b (userOf ws m))
-    where
-      u : ℕ
-      u = userOf ws m
-
-      go : (t : Bool) → (isOpen ws m && ltb u (nodes ws)) ≡ t → (nodes ws ≤ u + a → nodes ws ≤ u + b → u < nodes ws → scope ws a u ≡ scope ws b u)
-          → cond t (cond (isRightSide ws u m) (widthAt ws (left ws u) ∷ scope ws a u) (scope ws a u)) [] ≡ cond t (cond (isRightSide ws u m) (widthAt ws (left ws u) ∷ scope ws b u) (scope ws b u)) []
-      go true e before =
-          let k : u < nodes ws = ltb-true u (nodes ws) (and-right (isOpen ws m) _ e) in
-          let n : m < u = user-later m k in
-          rw (before (omega arith) (omega arith) k)
-      go false e before = refl
 
 module _ (ws reaches joins : List ℕ) (f : Formed ws) (r : Reaches ws reaches) (e : Entered ws reaches joins 0) where
   -- what the table has, by what the plan says
@@ -332,10 +291,10 @@ module _ (ws reaches joins : List ℕ) (f : Formed ws) (r : Reaches ws reaches) 
       e .at m l
       ∙ rw (user-first ws m, r m l, reach-open (shapeAt (widthsOf ws) (nodesOf ws) m .reads))
 
-  -- by the number of nodes above
-  found : (k m : ℕ) → nodes ws ≤ m + k → m < nodes ws → getD joins m 0 < 256 → (getD joins m 0 < nodes ws) × (operator ws (getD joins m 0) ≡ 8)
-  found zero m g l = absurd (omega arith)
-  found (suc k) m g l = go (isOpen ws m && ltb u (nodes ws)) (isRightSide ws u m) refl refl (rule m l) (found k u)
+  -- an entry is a dependent join of the plan, by the number of nodes above
+  join-found : (k m : ℕ) → nodes ws ≤ m + k → m < nodes ws → getD joins m 0 < 256 → (getD joins m 0 < nodes ws) × (operator ws (getD joins m 0) ≡ 8)
+  join-found zero m g l = absurd (omega arith)
+  join-found (suc k) m g l = go (isOpen ws m && ltb u (nodes ws)) (isRightSide ws u m) refl refl (rule m l) (join-found k u)
     where
       u : ℕ
       u = userOf ws m
@@ -346,15 +305,15 @@ module _ (ws reaches joins : List ℕ) (f : Formed ws) (r : Reaches ws reaches) 
       go true true s t q before = rw q (λ h. (ltb-true u (nodes ws) (and-right (isOpen ws m) _ s), eqb-true (operator ws u) 8 (and-left (eqb (operator ws u) 8) _ t)))
       go true false s t q before =
           let n : u < nodes ws = ltb-true u (nodes ws) (and-right (isOpen ws m) _ s) in
-          let d : m < u = user-later ws f m n in
+          let d : m < u = user-above ws f m n in
           rw q (before (omega arith) n)
       go false c s t q before = rw q (λ h. absurd (omega arith))
 
+  -- what stands around a node is what stands at its join
   stands : (k m : ℕ) → nodes ws ≤ m + k → m < nodes ws → scopeOf ws m ≡ cond (ltb (getD joins m 0) 256) (widthAt ws (left ws (getD joins m 0)) ∷ scopeOf ws (getD joins m 0)) []
-  unfolding scope
   stands zero m g l = absurd (omega arith)
   stands (suc k) m g l =
-      scope-fuel ws f (nodes ws) (suc (nodes ws)) m (omega arith) (omega arith) l
+      scope-once ws f m l
       ∙ go (isOpen ws m && ltb u (nodes ws)) (isRightSide ws u m) refl (rule m l) (stands k u)
     where
       u : ℕ
@@ -368,55 +327,10 @@ module _ (ws reaches joins : List ℕ) (f : Formed ws) (r : Reaches ws reaches) 
           rw (q, lt-ltb u 256 (omega (arith, limited ws (f .sized) .nodes-few)))
       go true false s q before =
           let n : u < nodes ws = ltb-true u (nodes ws) (and-right (isOpen ws m) _ s) in
-          let d : m < u = user-later ws f m n in
+          let d : m < u = user-above ws f m n in
           rw q (before (omega arith) n)
       go false c s q before = rw q
 
   -- the whole table is the joins
   pub joins-end : Joins ws joins × InPlan ws joins
-  joins-end = (λ m l. stands (nodes ws) m (omega arith) l, λ m l. found (nodes ws) m (omega arith) l)
-
--- ---- the way out from a node, join by join
-
--- the row of join at and those around it
-unfoldable pub rowsFrom : List ℕ → ℕ → List ℕ
-rowsFrom ws at = cond (ltb at 256) (widthAt ws (left ws at) ∷ scopeOf ws at) []
-
--- what is looked for, from node n at a level, is looked for at level l from join at on
-pub record Climbed (ws : List ℕ) (n level at l : ℕ) : Type 0 where
-  pub same : getD (scopeOf ws n) level 0 ≡ getD (rowsFrom ws at) l 0
-  pub join : at < 256 → (at < nodes ws) × (operator ws at ≡ 8)
-
-module _ (ws joins : List ℕ) (is : Joins ws joins) (inside : InPlan ws joins) (n level : ℕ) where
-  pub climb-start : (w : ℕ) → n < nodes ws → w ≡ n → Climbed ws n level (getD joins w 0) level
-  unfolding rowsFrom
-  climb-start w h e = rw e (record { same = ap (λ (k : List ℕ). getD k level 0) (is n h); join = inside n h })
-
-  pub climb-next : (at l w : ℕ) → Climbed ws n level at l → at < 256 → 0 < l → w ≡ at → Climbed ws n level (getD joins w 0) (l - 1)
-  unfolding rowsFrom
-  climb-next at l w c h g e =
-      let d : l ≡ suc (l - 1) = omega arith in
-      let m : at < nodes ws = c .join h .0 in
-      rw e
-      (record {
-        same = c .same ∙ rw (lt-ltb at 256 h) (ap (λ (k : ℕ). getD (widthAt ws (left ws at) ∷ scopeOf ws at) k 0) d ∙ ap (λ (k : List ℕ). getD k (l - 1) 0) (is at m));
-        join = inside at m;
-      })
-
-module _ (ws : List ℕ) (n level at l : ℕ) (c : Climbed ws n level at l) where
-  pub climb-none : 256 ≤ at → 0 ≡ getD (scopeOf ws n) level 0
-  unfolding rowsFrom
-  climb-none h = sym (c .same ∙ rw (le-ltb at 256 h))
-
-  module _ (f : Formed ws) (h : at < 256) (i w : ℕ) (e : i ≡ left ws at) (d : w ≡ i) where
-    join-left : left ws at < at
-    join-left = facts-at ws f at (c .join h .0) .left-node (λ q. omega (arith, c .join h .1))
-
-    pub climb-inside : w < 256
-    climb-inside = omega (arith, join-left)
-
-    pub climb-end : (rows : List ℕ) → Widths ws rows → l ≤ 0 → getD rows w 0 ≡ getD (scopeOf ws n) level 0
-    unfolding rowsFrom
-    climb-end rows k g =
-        let z : l ≡ 0 = omega arith in
-        rw (d, e) (k (left ws at) (omega (arith, join-left, c .join h .0)) ∙ sym (c .same ∙ rw (lt-ltb at 256 h, z)))
+  joins-end = (λ m l. stands (nodes ws) m (omega arith) l, λ m l. join-found (nodes ws) m (omega arith) l)

@@ -1,23 +1,23 @@
 -- The users of a node, and what stands around it: an open node has one user.
 use mathlib.Core.Path.{_≡_, refl, _∙_}
 use mathlib.Core.Bool.{Bool, true, false, cond, _&&_, and-false, false≢true}
-use mathlib.Core.List.{List, [], _∷_, map, append-nil}
+use mathlib.Core.List.{List, [], _∷_, map}
 use Prim.Native.Nat.{ℕ, zero, suc, _+_, _≤_, _<_}
 use native.Mathlib.Omega.{arith}
 use native.Mathlib.Numerals.{add-one}
 use lib.Dec.{ltb, eqb}
-use lib.ListN.{length, getD, length-append}
+use lib.ListN.{length, length-append}
 use borrow.Author.Tests.{ltb-true, ltb-false, lt-ltb, eqb-true}
 use Rattle.algebra.specs.Lists.{keep, any, each, upto, Every, done, more}
 use Rattle.algebra.specs.Plan.{Kind, Node, scan, select, compute, project, join, group, groupjoin, dependent, inputs}
 use Rattle.algebra.specs.Statements.{uses}
-use Rattle.algebra.proofs.Lists.Keep.{keep-append, map-append, each-append}
-use Rattle.algebra.proofs.Lists.Every.{every-kept}
+use Rattle.algebra.proofs.Lists.Keep.{keep-append}
 use Rattle.plan.specs.Words.{Item, nodes, operator, left, right, kind, itemsOf}
 use Rattle.plan.specs.Plan.{nodeFor, nodeAt, kindOf}
 use Rattle.plan.specs.Verdict.{lowest, usesOf, widthAt, isOpen, userOf, isRightSide, scope, scopeOf}
 use Rattle.plan.specs.Promise.{Formed}
-use Rattle.plan.proofs.Laws.Loops.{none-more, lowest-found}
+use Rattle.plan.proofs.Laws.Loops.{none-more, lowest-found, lowest-passes}
+use Rattle.plan.proofs.Laws.Numbered.{each-more}
 use Rattle.plan.proofs.Laws.Formed.{by-operator, facts-at, inputs-below}
 
 -- ---- elements that pass
@@ -41,21 +41,13 @@ module _ {A : Type 0} (p : A → Bool) where
       go false h = h
 
 -- what every number of a list has, one that is in it has
-pub found : {P : ℕ → Type 0} (m : ℕ) {xs : List ℕ} → Every P xs → any (eqb m) xs ≡ true → P m
-found m done e = absurd (false≢true e)
-found {P} m (more {x} {xs} h t) e = go (eqb m x) refl (found m t) e
+pub every-found : {P : ℕ → Type 0} (m : ℕ) {xs : List ℕ} → Every P xs → any (eqb m) xs ≡ true → P m
+every-found m done e = absurd (false≢true e)
+every-found {P} m (more {x} {xs} h t) e = go (eqb m x) refl (every-found m t) e
   where
     go : (b : Bool) → eqb m x ≡ b → (any (eqb m) xs ≡ true → P m) → cond b true (any (eqb m) xs) ≡ true → P m
     go true q rest g = rw (eqb-true m x q) h
     go false q rest g = rest g
-
--- the lowest number that passes passes
-pub lowest-passes : (p : ℕ → Bool) (n : ℕ) → lowest p n < n → p (lowest p n) ≡ true
-lowest-passes p n = go (keep p (upto n)) (every-kept p (upto n))
-  where
-    go : (ks : List ℕ) → Every (λ k. p k ≡ true) ks → getD ks 0 n < n → p (getD ks 0 n) ≡ true
-    go ks done h = absurd (omega arith)
-    go ks (more e t) h = e
 
 -- ---- how often m is an input
 
@@ -73,8 +65,8 @@ module _ (f : ℕ → Node) (m : ℕ) where
   takes k = any (eqb m) (inputs (f k))
 
   -- of one node more
-  pub before-more : (k : ℕ) → before (suc k) ≡ before k + here k
-  before-more k = rw (map-append f (upto k) (k ∷ []), each-append inputs (map f (upto k)) (f k ∷ []), append-nil (inputs (f k)), keep-append (eqb m) (each inputs (map f (upto k))) (inputs (f k)), length-append)
+  pub uses-more : (k : ℕ) → before (suc k) ≡ before k + here k
+  uses-more k = rw (each-more inputs f k, keep-append (eqb m) (each inputs (map f (upto k))) (inputs (f k)), length-append)
 
   -- of a node and those below it among all
   before-all : (k n : ℕ) → k < n → before k + here k ≤ before n
@@ -82,13 +74,13 @@ module _ (f : ℕ → Node) (m : ℕ) where
   before-all k (suc n) h = go (ltb k n) refl (before-all k n)
     where
       go : (b : Bool) → ltb k n ≡ b → (k < n → before k + here k ≤ before n) → before k + here k ≤ before (suc n)
-      go true t rest = omega (arith, before-more n, rest (ltb-true k n t))
-      go false t rest = let q : n ≡ k = omega (arith, ltb-false k n t) in rw q (omega (arith, before-more k))
+      go true t rest = omega (arith, uses-more n, rest (ltb-true k n t))
+      go false t rest = let q : n ≡ k = omega (arith, ltb-false k n t) in rw q (omega (arith, uses-more k))
 
   -- where no node below k has m as an input
   untaken : (k : ℕ) → before k ≡ 0 → keep takes (upto k) ≡ []
   untaken zero e = refl
-  untaken (suc k) e = rw (add-one k) at (none-more takes k (untaken k (omega (arith, before-more k))) (none-kept (eqb m) (inputs (f k)) (omega (arith, before-more k))))
+  untaken (suc k) e = rw (add-one k) at (none-more takes k (untaken k (omega (arith, uses-more k))) (none-kept (eqb m) (inputs (f k)) (omega (arith, uses-more k))))
 
   -- the inputs of one node are among those of all
   pub here-few : (k n : ℕ) → k < n → here k ≤ before n
@@ -125,7 +117,7 @@ given ws m u beyond = cond (isRightSide ws u m) (widthAt ws (left ws u) ∷ beyo
 module _ (ws : List ℕ) (f : Formed ws) where
   -- a user stands above
   pub user-above : (m : ℕ) → userOf ws m < nodes ws → m < userOf ws m
-  user-above m h = found m (inputs-below ws f (userOf ws m) h) (lowest-passes (λ n. any (eqb m) (inputs (nodeAt ws n))) (nodes ws) h)
+  user-above m h = every-found m (inputs-below ws f (userOf ws m) h) (lowest-passes (takes (nodeAt ws) m) (nodes ws) h)
 
   -- fuel for all the users above is enough
   pub fuel-enough : (a b m : ℕ) → m < nodes ws → nodes ws ≤ a + m → nodes ws ≤ b + m → scope ws a m ≡ scope ws b m

@@ -14,9 +14,11 @@ use Rattle.plan.proofs.Laws.Loops.{lowest-not}
 
 -- refusal k at the lowest fault, or what comes after it
 module _ (k : ℕ) (fault : ℕ → Bool) (bound : ℕ) (rest : Answer) where
+  -- a fault was found
   pub refused-here : (n : ℕ) → n ≡ lowest fault bound → n < bound → record { number = k; node = n } ≡ orElse k fault bound rest
   refused-here n e h = rw (sym e, lt-ltb n bound h)
 
+  -- no fault was found
   pub refused-later : (n : ℕ) → n ≡ lowest fault bound → bound ≤ n → rest ≡ orElse k fault bound rest
   refused-later n e h = rw (sym e, le-ltb n bound h)
 
@@ -45,15 +47,18 @@ module _ (ws : List ℕ) where
   unfolding verdict
   refused-limits e f = rw (e, f)
 
+  -- past refusals 1 and 2
   pub past-limits : Sized ws → from3 ≡ verdict ws
   unfolding verdict
   past-limits s = rw (s .header, s .limits)
 
   -- ---- what is known past a refusal
 
+  -- past refusals 1 and 2 the slice is sized
   pub sized : (a b : Bool) → a ≡ headerRight ws → not a ≡ false → b ≡ limitsRight ws → not b ≡ false → Sized ws
   sized a b e p f q = record { header = sym e ∙ not-false a p; limits = sym f ∙ not-false b q }
 
+  -- past refusal 3 it is well formed
   pub formed : Sized ws → (n : ℕ) → n ≡ lowest (λ m. not (nodeRight ws m)) (nodes ws) → nodes ws ≤ n → Formed ws
   formed s n e h = record {
     sized = s;
@@ -64,6 +69,7 @@ module _ (ws : List ℕ) where
   pub all-measured : (rows : List ℕ) (narrow : ℕ) → Measured ws rows narrow → nodes ws ≤ narrow → Widths ws rows
   all-measured rows narrow m h i l = m .each i (omega arith)
 
+  -- no width is above 64
   pub all-narrow : (rows : List ℕ) (narrow : ℕ) → Measured ws rows narrow → nodes ws ≤ narrow → (i : ℕ) → i < nodes ws → getD rows i 0 ≤ 64
   all-narrow rows narrow m h i l =
       rw (m .each i (omega arith)) (ltb-false 64 (widthAt ws i) (lowest-not (isTooWide ws) (nodes ws) (rw (m .first) at h) i l))

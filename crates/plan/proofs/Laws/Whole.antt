@@ -1,7 +1,7 @@
 -- The words of a well-formed slice are those that its plan is written as.
 use mathlib.Core.Path.{_≡_, refl, sym, ap, subst, _∙_}
 use mathlib.Core.Bool.{Bool, true, false, cond}
-use mathlib.Core.List.{List, [], _∷_, _++_, map, append-nil}
+use mathlib.Core.List.{List, [], _∷_, _++_, map}
 use Prim.Native.Nat.{ℕ, zero, suc, _+_, _-_, _*_, _/_, _%_, _^_, _<_, _≤_}
 use native.Mathlib.Omega.{arith}
 use lib.Dec.{leb, ltb, eqb}
@@ -10,7 +10,7 @@ use lib.Seq.{ext-getD}
 use borrow.Author.Tests.{ltb-true, ltb-false, eqb-true, eq-eqb}
 use Rattle.algebra.specs.Lists.{each, upto, Every, done, more}
 use Rattle.algebra.specs.Plan.{Node}
-use Rattle.algebra.proofs.Lists.Keep.{each-append, map-append, map-map}
+use Rattle.algebra.proofs.Lists.Keep.{map-map}
 use Rattle.algebra.proofs.Domains.Keys.{upto-all}
 use Rattle.plan.specs.Words.{Item, word, tables, nodes, items, tableWidth, nodeWord, operator, left, right, kind, firstItem, itemCount, itemWord, itemAt, itemsOf}
 use Rattle.plan.specs.Items.{between}
@@ -19,9 +19,10 @@ use Rattle.plan.specs.Verdict.{hasRight, hasKind, itemsBefore, inputsRig
 use Rattle.plan.specs.Promise.{Formed}
 use Rattle.plan.specs.Encoding.{parts, allItems, wordsOf}
 use Rattle.plan.proofs.Laws.Header.{both, header-says}
-use Rattle.plan.proofs.Laws.Formed.{facts-at, limited}
-use Rattle.plan.proofs.Laws.Numbered.{numbered-at, numbered-length, numbered-add, numbered-take}
-use Rattle.plan.proofs.Laws.Written.{itemWords, nodeItems, items-length, all-items, all-length, six}
+use Rattle.plan.proofs.Laws.Formed.{node-tests, facts-at, limited, nodes-length}
+use Rattle.plan.proofs.Laws.Items.{items-length}
+use Rattle.plan.proofs.Laws.Numbered.{numbered-at, numbered-length, numbered-add, numbered-take, each-more}
+use Rattle.plan.proofs.Laws.Written.{itemWords, nodeItems, node-items-length, all-items, all-length, six}
 use Rattle.plan.proofs.Laws.Encoded as encoded
 use Rattle.plan.proofs.Laws.Fitting.{narrow}
 use Rattle.plan.proofs.Laws.Rebuilt.{items-again, operator-again, left-again, right-again, kind-again}
@@ -33,24 +34,18 @@ again ws = wordsOf (widthsOf ws) (nodesOf ws)
 -- ---- "Unused words are 0."
 
 module _ (ws : List ℕ) (n : ℕ) (e : nodeRight ws n ≡ true) where
-  tests : (inputsRight ws n ≡ true) × (kindRight ws n ≡ true) × (countRight ws n ≡ true)
-  unfolding nodeRight
-  tests =
-      let a = both (between 1 8 (operator ws n)) _ e in
-      let b = both (inputsRight ws n) _ (a .1) in
-      let c = both (kindRight ws n) _ (b .1) in
-      (b .0, c .0, both (countRight ws n) _ (c .1) .0)
-
+  -- the right word of a node without right input
   right-zero : hasRight (operator ws n) ≡ false → right ws n ≡ 0
   unfolding inputsRight
   right-zero q =
-      let h : cond (hasRight (operator ws n)) (ltb (right ws n) n) (eqb (right ws n) 0) ≡ true = both (cond (eqb (operator ws n) 1) _ _) _ (tests .0) .1 in
+      let h : cond (hasRight (operator ws n)) (ltb (right ws n) n) (eqb (right ws n) 0) ≡ true = both (cond (eqb (operator ws n) 1) _ _) _ (node-tests ws n e .1) .1 in
       eqb-true _ _ (rw q at h)
 
+  -- the kind word of a node without kind
   kind-zero : hasKind (operator ws n) ≡ false → kind ws n ≡ 0
   unfolding kindRight
   kind-zero q =
-      let h : cond (hasKind (operator ws n)) (between 1 4 (kind ws n)) (eqb (kind ws n) 0) ≡ true = tests .1 in
+      let h : cond (hasKind (operator ws n)) (between 1 4 (kind ws n)) (eqb (kind ws n) 0) ≡ true = node-tests ws n e .2 in
       eqb-true _ _ (rw q at h)
 
   -- the items of the last node end where all do
@@ -58,12 +53,13 @@ module _ (ws : List ℕ) (n : ℕ) (e : nodeRight ws n ≡ true) where
   unfolding countRight
   count-last q =
       let a : ℕ = itemsBefore ws n + itemCount ws n in
-      let h : cond (eqb (n + 1) (nodes ws)) (eqb a (items ws)) (leb a (items ws)) ≡ true = both (eqb (firstItem ws n) (itemsBefore ws n)) _ (tests .2) .1 in
+      let h : cond (eqb (n + 1) (nodes ws)) (eqb a (items ws)) (leb a (items ws)) ≡ true = both (eqb (firstItem ws n) (itemsBefore ws n)) _ (node-tests ws n e .3) .1 in
       eqb-true _ _ (rw (eq-eqb (n + 1) (nodes ws) q) at h)
 
 -- ---- the nodes and their items
 
 module _ (ws : List ℕ) (f : Formed ws) (small : Every (λ w. w < 2 ^ 32) ws) where
+  -- the items of a node
   node-items-again : (n : ℕ) → n < nodes ws → nodeItems (nodeAt ws n) ≡ itemsOf ws n
   node-items-again n h =
       let g = facts-at ws f n h in
@@ -74,15 +70,13 @@ module _ (ws : List ℕ) (f : Formed ws) (small : Every (λ w. w < 2 ^ 32) ws) w
   unfolding itemsBefore
   items-first zero h = refl
   items-first (suc n) h =
-      ap (each nodeItems) (map-append (nodeAt ws) (upto n) (n ∷ []))
-      ∙ each-append nodeItems (map (nodeAt ws) (upto n)) (nodeAt ws n ∷ [])
+      each-more nodeItems (nodeAt ws) n
       ∙ (λ i. items-first n (omega arith) i ++ last i)
       ∙ sym (numbered-add (itemAt ws) (itemsBefore ws n) (itemCount ws n))
     where
-      last : nodeItems (nodeAt ws n) ++ [] ≡ map (λ i. itemAt ws (itemsBefore ws n + i)) (upto (itemCount ws n))
+      last : nodeItems (nodeAt ws n) ≡ map (λ i. itemAt ws (itemsBefore ws n + i)) (upto (itemCount ws n))
       last =
-          append-nil (nodeItems (nodeAt ws n))
-          ∙ node-items-again n h
+          node-items-again n h
           ∙ ap (λ (a : ℕ). map (λ i. itemAt ws (a + i)) (upto (itemCount ws n))) (facts-at ws f n h .first)
 
   -- the counts of all nodes sum to the number of items
@@ -94,9 +88,11 @@ module _ (ws : List ℕ) (f : Formed ws) (small : Every (λ w. w < 2 ^ 32) ws) w
       let p : nodes ws ≡ suc n = omega arith in
       ap (itemsBefore ws) p ∙ count-last ws n (f .formed n (omega arith)) (omega arith)
 
+  -- the items of all nodes
   all-again : allItems (nodesOf ws) ≡ map itemWords (map (itemAt ws) (upto (items ws)))
   all-again = all-items (nodesOf ws) ∙ ap (map itemWords) (items-first (nodes ws) (omega arith) ∙ ap (λ (n : ℕ). map (itemAt ws) (upto n)) items-whole)
 
+  -- how many items the first nodes have
   first-again : (n : ℕ) → n ≤ nodes ws → length (allItems (map (nodeAt ws) (upto n))) ≡ itemsBefore ws n
   first-again n h = all-length (map (nodeAt ws) (upto n)) ∙ ap length (items-first n h) ∙ numbered-length (itemAt ws) (itemsBefore ws n)
 
@@ -106,7 +102,7 @@ module _ (ws : List ℕ) (f : Formed ws) (small : Every (λ w. w < 2 ^ 32) ws) w
   tables-same = encoded.tables-of (widthsOf ws) (nodesOf ws) ∙ numbered-length (tableWidth ws) (tables ws)
 
   nodes-same : nodes (again ws) ≡ nodes ws
-  nodes-same = encoded.nodes-of (widthsOf ws) (nodesOf ws) ∙ numbered-length (nodeAt ws) (nodes ws)
+  nodes-same = encoded.nodes-of (widthsOf ws) (nodesOf ws) ∙ nodes-length ws
 
   items-same : items (again ws) ≡ items ws
   items-same = encoded.items-of (widthsOf ws) (nodesOf ws) ∙ first-again (nodes ws) (omega arith) ∙ items-whole
@@ -152,7 +148,7 @@ module _ (ws : List ℕ) (f : Formed ws) (small : Every (λ w. w < 2 ^ 32) ws) w
       let o : ℕ = operator ws n in
       let xs : List Item = itemsOf ws n in
       let first : length (allItems (take n (nodesOf ws))) ≡ firstItem ws n = ap (λ (l : List Node). length (allItems l)) (numbered-take (nodeAt ws) (nodes ws) n (omega arith)) ∙ first-again n (omega arith) ∙ sym (g .first) in
-      let count : length (parts (nodeAt ws n) .items) ≡ itemCount ws n = items-length (nodeAt ws n) ∙ ap length (node-items-again n h) ∙ numbered-length (λ i. itemAt ws (firstItem ws n + i)) (itemCount ws n) in
+      let count : length (parts (nodeAt ws n) .items) ≡ itemCount ws n = node-items-length (nodeAt ws n) ∙ ap length (node-items-again n h) ∙ items-length ws (firstItem ws n) (itemCount ws n) in
       λ i.
       operator-again (left ws n) (right ws n) (kind ws n) xs o (g .low) (g .high) i
       ∷ left-again (left ws n) (right ws n) (kind ws n) xs o (g .low) (g .high) i
@@ -165,7 +161,7 @@ module _ (ws : List ℕ) (f : Formed ws) (small : Every (λ w. w < 2 ^ 32) ws) w
   node-same : (n k : ℕ) → n < nodes ws → k < 6 → nodeWord (again ws) n k ≡ nodeWord ws n k
   unfolding sixWords
   node-same n k h l =
-      encoded.node-word-of (widthsOf ws) (nodesOf ws) (nodeAt ws 0) n (rw (numbered-length (nodeAt ws) (nodes ws)) h) k l
+      encoded.node-word-of (widthsOf ws) (nodesOf ws) (nodeAt ws 0) n (rw (nodes-length ws) h) k l
       ∙ ap (λ (x : Node). getD (six (length (allItems (take n (nodesOf ws)))) x) k 0) (numbered-at (nodeAt ws) (nodes ws) n (nodeAt ws 0) h)
       ∙ ap (λ (x : List ℕ). getD x k 0) (six-same n h)
       ∙ upto-all {P = λ i. getD (sixWords n) i 0 ≡ nodeWord ws n i} 6 (more refl (more refl (more refl (more refl (more refl (more refl done)))))) k l
@@ -227,6 +223,7 @@ module _ (ws : List ℕ) (f : Formed ws) (small : Every (λ w. w < 2 ^ 32) ws) w
       first true e = header-same i (ltb-true i 8 e)
       first false e = second (ltb i (8 + tables ws)) refl (ltb-false i 8 e)
 
+  -- all words
   pub words-same : wordsOf (widthsOf ws) (nodesOf ws) ≡ ws
   unfolding word
   words-same = ext-getD 0 (again ws) ws length-same (λ i h. word-same i (omega (arith, length-same)))

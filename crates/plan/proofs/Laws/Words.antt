@@ -10,6 +10,7 @@ pub word-read : (ws : List ℕ) (i : ℕ) → getD ws i 0 ≡ word ws i
 unfolding word
 word-read ws i = refl
 
+-- past the end a word is 0
 pub word-past : (ws : List ℕ) (i : ℕ) → length ws ≤ i → 0 ≡ word ws i
 unfolding word
 word-past ws i h = sym (List·getD-eq-default ws 0 h)

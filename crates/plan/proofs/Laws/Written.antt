@@ -15,9 +15,11 @@ use Rattle.plan.specs.Encoding.{unsigned, termWords, testTag, conjunctWo
 
 -- ---- an item and its seven words
 
+-- the three words of a term
 abbrev pub threeWords : Three → List ℕ
 threeWords t = t .code ∷ t .level ∷ t .value ∷ []
 
+-- the seven words of an item
 abbrev pub itemWords : Item → List ℕ
 itemWords x = x .tag ∷ (threeWords (x .first) ++ threeWords (x .second))
 
@@ -28,9 +30,6 @@ itemOf w = record {
   first = record { code = getD w 1 0; level = getD w 2 0; value = getD w 3 0 };
   second = record { code = getD w 4 0; level = getD w 5 0; value = getD w 6 0 };
 }
-
-pub item-of : (x : Item) → itemOf (itemWords x) ≡ x
-item-of x = refl
 
 -- ---- the items that a node is written as
 
@@ -72,6 +71,7 @@ nodeItems (dependent k cs l r) = map conjunctItem cs
 
 -- ---- their words are those of the encoding
 
+-- a term, a conjunct, a computation and an aggregate
 term-words : (t : Term) → termWords t ≡ threeWords (threeOf t)
 term-words (column p) = refl
 term-words (outer l p) = refl
@@ -106,6 +106,7 @@ positions-words tag = list-words (positionWords tag) (positionItem tag) (λ p. r
 aggregates-words : (gs : List Aggregate) → map aggregateWords gs ≡ map itemWords (map aggregateItem gs)
 aggregates-words = list-words aggregateWords aggregateItem aggregate-words
 
+-- the words of a node's items
 pub node-items : (n : Node) → parts n .items ≡ map itemWords (nodeItems n)
 node-items (scan t) = refl
 node-items (select cs i) = conjuncts-words cs
@@ -117,14 +118,15 @@ node-items (groupjoin cs gs l r) = rw (conjuncts-words cs, aggregates-words gs) 
 node-items (dependent k cs l r) = conjuncts-words cs
 
 -- as many items as the node has
-pub items-length : (n : Node) → length (parts n .items) ≡ length (nodeItems n)
-items-length n = ap length (node-items n) ∙ length-map (nodeItems n) itemWords
+pub node-items-length : (n : Node) → length (parts n .items) ≡ length (nodeItems n)
+node-items-length n = ap length (node-items n) ∙ length-map (nodeItems n) itemWords
 
 -- all items of a plan
 pub all-items : (ns : List Node) → allItems ns ≡ map itemWords (each nodeItems ns)
 all-items [] = refl
 all-items (n ∷ ns) = rw (node-items n, all-items ns) (sym (map-append itemWords (nodeItems n) (each nodeItems ns)))
 
+-- how many items a plan has
 pub all-length : (ns : List Node) → length (allItems ns) ≡ length (each nodeItems ns)
 all-length ns = ap length (all-items ns) ∙ length-map (each nodeItems ns) itemWords
 
@@ -164,6 +166,7 @@ module _ (d : Node) where
       ∙ word-among (from + m) ns rest n k (omega arith) l
       ∙ ap (λ (a : ℕ). getD (six a (getD ns n d)) k 0) (sym q)
 
+-- "A node is 6 words"
 pub words-length : (from : ℕ) (ns : List Node) → length (nodeWords from ns) ≡ 6 * length ns
 words-length from [] = refl
 words-length from (x ∷ ns) = rw (words-length (from + length (parts x .items)) ns) (omega arith)

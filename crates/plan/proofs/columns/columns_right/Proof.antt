@@ -1,8 +1,7 @@
 use mathlib.Core.Path.{sym, _∙_}
 use native.Mathlib.Omega.{arith}
 use borrow.Author.Tests.{not-true, not-false}
-use Rattle.plan.proofs.Laws.Formed.{limited}
-use Rattle.plan.proofs.Laws.Scope.{left-below, right-below}
+use Rattle.plan.proofs.Laws.Formed.{limited, left-below, right-below}
 use Rattle.plan.proofs.Laws.Columns.{columns-scan, columns-one, columns-two}
 use borrow.Author.Needs.{needs}
 use Rattle.plan.proofs.columns.columns_right.Statement.{statement}
@@ -26,7 +25,7 @@ mul-l c = search needs
 element-copy-out-l : tie.Need-element-copy-out-l
 element-copy-out-l c =
     let p = c .before .before .before .before .before in
-    omega (arith, left-below _ (p .pre .0) _ (p .pre .1) _ _ _ (c .before .before .before .operator .ensures) (c .before .before .if1 .left) (c .before .left .ensures) (c .wide .ensures), limited _ (p .pre .0 .sized) .nodes-few)
+    omega (arith, left-below _ (p .pre .0) _ (p .pre .1) (c .before .before .before .operator .ensures) (c .before .before .if1 .left) (c .before .left .ensures) (c .wide .ensures), limited _ (p .pre .0 .sized) .nodes-few)
 
 has-right-requires : tie.Need-has-right-requires
 has-right-requires c κs = search needs
@@ -52,14 +51,14 @@ mul-r c = search needs
 element-copy-out-r : tie.Need-element-copy-out-r
 element-copy-out-r c =
     let p = c .before .before .before .before .before .before .before .before .before .before in
-    omega (arith, right-below _ (p .pre .0) _ (p .pre .1) _ _ _ (c .before .before .before .before .before .before .before .before .operator .ensures) (sym (c .before .before .before .has-right .ensures) ∙ not-false _ (c .before .before .if2 .left)) (c .before .right .ensures) (c .wide2 .ensures), limited _ (p .pre .0 .sized) .nodes-few)
+    omega (arith, right-below _ (p .pre .0) _ (p .pre .1) (c .before .before .before .before .before .before .before .before .operator .ensures) (sym (c .before .before .before .has-right .ensures) ∙ not-false _ (c .before .before .if2 .left)) (c .before .right .ensures) (c .wide2 .ensures), limited _ (p .pre .0 .sized) .nodes-few)
 
 add-items-there : tie.Need-add-items-there
 add-items-there c =
     let p = c .before .before .before .before .before .before .before .before .before .before .before in
     let o = c .before .before .before .before .before .before .before .before .before .operator .ensures in
-    let l = left-below _ (p .pre .0) _ (p .pre .1) _ _ _ o (c .before .before .before .before .before .before .before .before .if1 .left) (c .before .before .before .before .before .before .before .left .ensures) (c .before .before .before .before .before .before .wide .ensures) in
-    let r = right-below _ (p .pre .0) _ (p .pre .1) _ _ _ o (sym (c .before .before .before .before .has-right .ensures) ∙ not-false _ (c .before .before .before .if2 .left)) (c .before .before .right .ensures) (c .before .wide2 .ensures) in
+    let l = left-below _ (p .pre .0) _ (p .pre .1) o (c .before .before .before .before .before .before .before .before .if1 .left) (c .before .before .before .before .before .before .before .left .ensures) (c .before .before .before .before .before .before .wide .ensures) in
+    let r = right-below _ (p .pre .0) _ (p .pre .1) o (sym (c .before .before .before .before .has-right .ensures) ∙ not-false _ (c .before .before .before .if2 .left)) (c .before .before .right .ensures) (c .before .wide2 .ensures) in
     omega (arith, p .pre .5 (c .before .before .before .before .before .before .wide .result) (omega arith), p .pre .5 (c .before .wide2 .result) (omega arith))
 
 items-there-requires-2 : tie.Need-items-there-requires-2

@@ -1,4 +1,4 @@
-use mathlib.Core.Path.{_≡_}
+use mathlib.Core.Path.{_≡_, _∙_}
 use mathlib.Core.Bool.{not}
 use mathlib.Core.List.{[]}
 use Prim.Native.Nat.{_≤_, _-_}
@@ -6,7 +6,7 @@ use native.Mathlib.Omega.{arith}
 use borrow.Author.Needs.{needs}
 use Rattle.algebra.specs.Lists.{keep, upto}
 use Rattle.plan.specs.Verdict.{columnsRight}
-use Rattle.plan.proofs.Laws.Columns.{found-missing, none-missing, all-there}
+use Rattle.plan.proofs.Laws.Loops.{lowest-end, wrong-found, wrong-more}
 use Rattle.plan.proofs.columns.first_missing.Statement.{statement}
 use Rattle.plan.proofs.columns.first_missing.Tie as tie
 
@@ -28,7 +28,7 @@ columns-right-requires c κs = search needs
 returns : tie.Need-returns Inv-loop μ-loop
 returns c =
     let l = c .before .before .before .loop in
-    found-missing _ (l .n) _ _ (l .inv .1) (c .before .columns-right .ensures) (c .if1 .taken) (c .before .before .loop-test .taken) (c .before .before .before .before .nodes .ensures)
+    wrong-found (columnsRight _) (l .n) (c .before .columns-right .ensures) (l .inv .1) (c .if1 .taken) (c .before .before .before .before .nodes .ensures) (c .before .before .loop-test .taken)
 
 add-n : tie.Need-add-n Inv-loop μ-loop
 add-n c = search needs
@@ -39,12 +39,12 @@ loop-less c = search needs
 loop-again : tie.Need-loop-again Inv-loop μ-loop
 loop-again c =
     let l = c .before .before .before .loop in
-    (omega arith, none-missing _ (l .n) (c .before .before .before .before .nodes .result) _ (l .inv .1) (c .before .columns-right .ensures) (c .if1 .left))
+    (omega arith, wrong-more (columnsRight _) (l .n) (c .before .columns-right .ensures) (l .inv .1) (c .if1 .left))
 
 returns-2 : tie.Need-returns-2 Inv-loop μ-loop
 returns-2 c =
     let l = c .before .loop in
-    all-there _ (l .n) _ (l .inv .1) (c .loop-test .left) (l .inv .0) (c .before .before .nodes .ensures)
+    c .before .before .nodes .ensures ∙ lowest-end _ (l .n) _ (l .inv .1) (omega arith) (omega arith)
 
 pub first-missing-spec : {M : Type 1} → statement M
 first-missing-spec =

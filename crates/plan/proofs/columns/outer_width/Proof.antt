@@ -1,7 +1,7 @@
 use borrow.Author.Needs.{needs}
 use native.Mathlib.Omega.{arith}
 use Rattle.plan.proofs.Laws.Formed.{limited}
-use Rattle.plan.proofs.Laws.Scope.{Climbed, climb-start, climb-next, climb-none, climb-inside, climb-end}
+use Rattle.plan.proofs.Laws.Levels.{Climbed, climb-start, climb-next, climb-none, climb-inside, climb-end}
 use Rattle.plan.proofs.columns.outer_width.Statement.{statement}
 use Rattle.plan.proofs.columns.outer_width.Tie as tie
 

@@ -1,4 +1,4 @@
-use Rattle.plan.proofs.Laws.Columns.{term-local, term-outer, term-constant, term-null}
+use Rattle.plan.proofs.Laws.Columns.{local-there, outer-there, constant-there, null-there}
 use borrow.Author.Needs.{needs}
 use Rattle.plan.proofs.columns.term_there.Statement.{statement}
 use Rattle.plan.proofs.columns.term_there.Tie as tie
@@ -19,16 +19,16 @@ enum-told-2 : tie.Need-enum-told-2
 enum-told-2 c = search needs
 
 returns : tie.Need-returns
-returns c = term-local _ _ _ _ (c .before .term .given .1)
+returns c = local-there _ _ _ _ (c .before .term .given .1)
 
 returns-2 : tie.Need-returns-2
-returns-2 c = term-outer _ _ _ _ _ _ (c .before .before .term2 .given .1) (c .outer-width .ensures)
+returns-2 c = outer-there _ _ _ _ _ _ (c .before .before .term2 .given .1) (c .outer-width .ensures)
 
 returns-3 : tie.Need-returns-3
-returns-3 c = term-constant _ _ _ _ (c .enum-told .given .1)
+returns-3 c = constant-there _ _ _ _ (c .enum-told .given .1)
 
 returns-4 : tie.Need-returns-4
-returns-4 c = term-null _ _ _ (c .enum-told2 .given .1)
+returns-4 c = null-there _ _ _ (c .enum-told2 .given .1)
 
 pub term-there-spec : {M : Type 1} → statement M
 term-there-spec =

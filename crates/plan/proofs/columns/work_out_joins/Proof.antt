@@ -5,8 +5,8 @@ use Prim.Native.Nat.{ℕ, _≤_, _<_, _-_}
 use native.Mathlib.Omega.{arith}
 use borrow.Author.Needs.{needs}
 use Rattle.plan.specs.Words.{nodes}
-use Rattle.plan.proofs.Laws.Formed.{limited}
-use Rattle.plan.proofs.Laws.Scope.{Entered, entered, leftEntered, left-none, left-done, enter-open, enter-closed, joins-start, joins-left, joins-both, joins-all, joins-end, left-below, right-below}
+use Rattle.plan.proofs.Laws.Formed.{limited, left-below, right-below}
+use Rattle.plan.proofs.Laws.Scope.{Entered, entered, leftEntered, left-none, left-done, enter-open, enter-closed, joins-start, joins-left, joins-both, joins-all, joins-end}
 use Rattle.plan.proofs.columns.work_out_joins.Statement.{statement}
 use Rattle.plan.proofs.columns.work_out_joins.Tie as tie
 
@@ -35,13 +35,13 @@ lefts c =
 left-inside : (c : tie.After-left Inv-loop μ-loop) (w : ℕ) → w ≡ c .left .result → w < 256
 left-inside c w e =
     let l = c .before .before .before .before in
-    omega (arith, left-below _ (l .before .before .before .pre .0) (l .loop .p - 1) (omega arith) _ _ w (c .before .before .operator .ensures) (c .before .if1 .taken) (c .left .ensures) e)
+    omega (arith, left-below _ (l .before .before .before .pre .0) (l .loop .p - 1) (omega arith) (c .before .before .operator .ensures) (c .before .if1 .taken) (c .left .ensures) e)
 
 right-inside : (c : tie.After-right Inv-loop μ-loop) (w : ℕ) → w ≡ c .right .result → w < 256
 right-inside c w e =
     let o = c .before .before .before .before in
     let l = o .before .before in
-    omega (arith, right-below _ (l .before .before .before .pre .0) (l .loop .p - 1) (omega arith) _ _ w (o .operator .ensures) (sym (c .before .before .has-right .ensures) ∙ c .before .if3 .taken) (c .right .ensures) e)
+    omega (arith, right-below _ (l .before .before .before .pre .0) (l .loop .p - 1) (omega arith) (o .operator .ensures) (sym (c .before .before .has-right .ensures) ∙ c .before .if3 .taken) (c .right .ensures) e)
 
 -- the table once both are entered
 rights : (c : tie.After-right Inv-loop μ-loop) (after : List ℕ)

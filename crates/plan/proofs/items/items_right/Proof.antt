@@ -26,7 +26,7 @@ item-right-requires : tie.Need-item-right-requires Inv-loop μ-loop
 item-right-requires c κs = search needs
 
 returns : tie.Need-returns Inv-loop μ-loop
-returns c = items-fail (c .before .before .before .before .before .args .sort) _ _ _ _ _ (c .before .item-right .ensures) (c .if1 .taken) (c .before .before .loop-test .taken)
+returns c = items-fail (rightOf (c .before .before .before .before .before .args .sort)) _ _ _ _ _ (c .before .item-right .ensures) (c .if1 .taken) (c .before .before .loop-test .taken)
 
 add-i : tie.Need-add-i Inv-loop μ-loop
 add-i c = search needs
@@ -35,10 +35,10 @@ loop-less : tie.Need-loop-less Inv-loop μ-loop
 loop-less c = search needs
 
 loop-again : tie.Need-loop-again Inv-loop μ-loop
-loop-again c = (omega arith, items-more (c .before .before .before .before .before .args .sort) _ _ _ (c .before .before .before .loop .inv .1) _ (c .before .item-right .ensures) (c .if1 .left))
+loop-again c = (omega arith, items-more (rightOf (c .before .before .before .before .before .args .sort)) _ _ _ (c .before .before .before .loop .inv .1) _ (c .before .item-right .ensures) (c .if1 .left))
 
 returns-2 : tie.Need-returns-2 Inv-loop μ-loop
-returns-2 c = items-end (c .before .before .before .args .sort) _ _ _ _ (c .before .loop .inv .1) (c .loop-test .left) (c .before .loop .inv .0)
+returns-2 c = items-end (rightOf (c .before .before .before .args .sort)) _ _ _ _ (c .before .loop .inv .1) (c .loop-test .left) (c .before .loop .inv .0)
 
 pub items-right-spec : {M : Type 1} → statement M
 items-right-spec =

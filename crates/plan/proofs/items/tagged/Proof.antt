@@ -1,4 +1,4 @@
-use Rattle.plan.proofs.Laws.Items.{tag-low, tag-not-low}
+use Rattle.plan.proofs.Laws.Items.{tag-under, tag-from}
 use borrow.Author.Needs.{needs}
 use Rattle.plan.proofs.items.tagged.Statement.{statement}
 use Rattle.plan.proofs.items.tagged.Tie as tie
@@ -7,10 +7,10 @@ tag-requires : tie.Need-tag-requires
 tag-requires c κs = search needs
 
 returns : tie.Need-returns
-returns c = tag-low _ _ (c .before .tag .ensures) _ _ (c .if1 .taken)
+returns c = tag-under _ _ (c .before .tag .ensures) _ _ (c .if1 .taken)
 
 returns-2 : tie.Need-returns-2
-returns-2 c = tag-not-low _ _ (c .before .tag .ensures) _ _ (c .if1 .left)
+returns-2 c = tag-from _ _ (c .before .tag .ensures) _ _ (c .if1 .left)
 
 pub tagged-spec : {M : Type 1} → statement M
 tagged-spec = tie.close (tie.spec tag-requires returns returns-2)

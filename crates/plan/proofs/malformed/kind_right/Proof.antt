@@ -1,4 +1,4 @@
-use Rattle.plan.proofs.Laws.Malformed.{kind-low, kind-within, kind-none}
+use Rattle.plan.proofs.Laws.Malformed.{kind-below, kind-within, kind-none}
 use borrow.Author.Needs.{needs}
 use Rattle.plan.proofs.malformed.kind_right.Statement.{statement}
 use Rattle.plan.proofs.malformed.kind_right.Tie as tie
@@ -10,7 +10,7 @@ operator-requires : tie.Need-operator-requires
 operator-requires c κs = search needs
 
 returns : tie.Need-returns
-returns c = kind-low _ _ (c .before .before .operator .ensures) (c .before .before .before .kind .ensures) (c .before .match .keys1) (c .if1 .taken)
+returns c = kind-below _ _ (c .before .before .operator .ensures) (c .before .before .before .kind .ensures) (c .before .match .keys1) (c .if1 .taken)
 
 returns-2 : tie.Need-returns-2
 returns-2 c = kind-within _ _ (c .before .before .operator .ensures) (c .before .before .before .kind .ensures) (c .before .match .keys1) (c .if1 .left)

@@ -8,8 +8,8 @@ use Rattle.algebra.specs.Lists.{keep, upto}
 use Rattle.plan.specs.Words.{items}
 use Rattle.plan.specs.Verdict.{itemsBefore, nodeRight}
 use Rattle.plan.proofs.Laws.Formed.{limited}
-use Rattle.plan.proofs.Laws.Loops.{lowest-end}
-use Rattle.plan.proofs.Laws.Malformed.{none-before, node-wrong, node-fine, before-more, before-within}
+use Rattle.plan.proofs.Laws.Loops.{lowest-end, wrong-found, wrong-more}
+use Rattle.plan.proofs.Laws.Malformed.{none-before, before-more, before-within}
 use Rattle.plan.proofs.malformed.malformed.Statement.{statement}
 use Rattle.plan.proofs.malformed.malformed.Tie as tie
 
@@ -31,7 +31,7 @@ node-right-requires c κs =
     (c .before .loop .inv .2, omega (arith, c .before .loop .inv .1, f .items-few), omega (arith, f .nodes-few), f .items-few)
 
 returns : tie.Need-returns Inv-loop μ-loop
-returns c = node-wrong _ _ (c .before .node-right .ensures) (c .before .before .before .loop .inv .3) (c .if1 .taken) (c .before .before .before .before .nodes .ensures) (c .before .before .loop-test .taken)
+returns c = wrong-found (nodeRight _) _ (c .before .node-right .ensures) (c .before .before .before .loop .inv .3) (c .if1 .taken) (c .before .before .before .before .nodes .ensures) (c .before .before .loop-test .taken)
 
 item-count-requires : tie.Need-item-count-requires Inv-loop μ-loop
 item-count-requires c κs = search needs
@@ -53,7 +53,7 @@ loop-again c =
     let l = c .before .before .before .before .loop in
     let says = c .before .before .node-right .ensures in
     let fine = c .before .if1 .left in
-    (omega arith, before-within _ (l .n) says fine (l .inv .2) (c .item-count .ensures), before-more _ (l .n) (l .inv .2) (c .item-count .ensures), node-fine _ (l .n) says (l .inv .3) fine)
+    (omega arith, before-within _ (l .n) says fine (l .inv .2) (c .item-count .ensures), before-more _ (l .n) (l .inv .2) (c .item-count .ensures), wrong-more (nodeRight _) (l .n) says (l .inv .3) fine)
 
 returns-2 : tie.Need-returns-2 Inv-loop μ-loop
 returns-2 c =

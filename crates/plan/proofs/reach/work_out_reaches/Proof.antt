@@ -7,7 +7,8 @@ use Rattle.algebra.specs.Columns.{shapeAt}
 use Rattle.plan.specs.Plan.{widthsOf, nodesOf}
 use Rattle.plan.specs.Passes.{reach}
 use Rattle.plan.proofs.Laws.Formed.{limited}
-use Rattle.plan.proofs.Laws.Reach.{reach-of, table-more}
+use Rattle.plan.proofs.Laws.Loops.{table-more}
+use Rattle.plan.proofs.Laws.Reach.{reach-of}
 use Rattle.plan.proofs.reach.work_out_reaches.Statement.{statement}
 use Rattle.plan.proofs.reach.work_out_reaches.Tie as tie
 

@@ -1,5 +1,5 @@
 use native.Mathlib.Omega.{arith}
-use Rattle.plan.proofs.Laws.Terms.{signed-low, signed-high, high-fits}
+use Rattle.plan.proofs.Laws.Terms.{read-low, read-high, high-fits}
 use borrow.Author.Needs.{needs}
 use Rattle.plan.proofs.terms.signed_word.Statement.{statement}
 use Rattle.plan.proofs.terms.signed_word.Tie as tie
@@ -14,10 +14,10 @@ sub-result : tie.Need-sub-result
 sub-result c = high-fits (c .before .args .w) (c .before .fits .w .fits)
 
 returns : tie.Need-returns
-returns c = signed-low (c .before .args .w) (omega arith)
+returns c = read-low (c .before .args .w) (omega arith)
 
 returns-2 : tie.Need-returns-2
-returns-2 c = signed-high (c .before .args .w) (omega arith) (c .before .fits .w .fits)
+returns-2 c = read-high (c .before .args .w) (omega arith) (c .before .fits .w .fits)
 
 pub signed-word-spec : {M : Type 1} → statement M
 signed-word-spec = tie.close (tie.spec cast-result cast-result-2 sub-result returns returns-2)

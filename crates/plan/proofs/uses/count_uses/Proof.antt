@@ -3,7 +3,7 @@ use mathlib.Core.Logic.{⊎-elim}
 use Prim.Native.Nat.{_-_, _≤_}
 use native.Mathlib.Omega.{arith}
 use borrow.Author.Needs.{needs}
-use Rattle.plan.proofs.Laws.Uses.{Tally, seen, seenLeft, tally-none, left-fits, left-added, left-none, right-fits, right-added, right-none, tally-end}
+use Rattle.plan.proofs.Laws.Uses.{Tally, seen, seenLeft, tally-none, left-fits, left-added, left-kept, right-fits, right-added, right-kept, tally-end}
 use Rattle.plan.proofs.uses.count_uses.Statement.{statement}
 use Rattle.plan.proofs.uses.count_uses.Tie as tie
 
@@ -46,7 +46,7 @@ add-use-requires-2 c κs =
     let t : Tally (b .if1 .uses) (seenLeft (s .args .words .now) (l .loop .n)) =
     ⊎-elim
     (λ w. left-added (s .pre) h o (l .loop .inv .1) (w .2 .ensures) (w .0 .taken) (w .4 ∙ w .3 .ensures))
-    (λ w. left-none (s .pre) h o (l .loop .inv .1) (w .0 .left) (w .1))
+    (λ w. left-kept (s .pre) h o (l .loop .inv .1) (w .0 .left) (w .1))
     (b .if1 .came)
     in
     right-fits (s .pre) h o (c .before .before .before .has-right .ensures) t (c .right .ensures) (c .before .before .if2 .taken)
@@ -67,14 +67,14 @@ loop-again c =
     let t : Tally (b .if1 .uses) (seenLeft (s .args .words .now) (l .loop .n)) =
     ⊎-elim
     (λ w. left-added (s .pre) h o (l .loop .inv .1) (w .2 .ensures) (w .0 .taken) (w .4 ∙ w .3 .ensures))
-    (λ w. left-none (s .pre) h o (l .loop .inv .1) (w .0 .left) (w .1))
+    (λ w. left-kept (s .pre) h o (l .loop .inv .1) (w .0 .left) (w .1))
     (b .if1 .came)
     in
     let has = c .before .has-right .ensures in
     let r =
     ⊎-elim
     (λ w. right-added (s .pre) h o has t (w .2 .ensures) (w .0 .taken) (w .4 ∙ w .3 .ensures))
-    (λ w. right-none (s .pre) h o has t (w .0 .left) (w .1))
+    (λ w. right-kept (s .pre) h o has t (w .0 .left) (w .1))
     (c .if2 .came)
     in
     (omega arith, r)

@@ -1,8 +1,8 @@
 use native.Mathlib.Omega.{arith}
-use Rattle.plan.proofs.Laws.Formed.{limited}
+use Rattle.plan.proofs.Laws.Formed.{limited, left-below, right-below}
 use Rattle.plan.proofs.Laws.Items.{tags-most}
 use Rattle.plan.proofs.Laws.Reach.{items-asked}
-use Rattle.plan.proofs.Laws.Widths.{scan-width, project-width, group-width, select-width, compute-width, groupjoin-width, join-width, left-below, right-below}
+use Rattle.plan.proofs.Laws.Widths.{scan-width, project-width, group-width, select-width, compute-width, groupjoin-width, join-width, join-right}
 use borrow.Author.Needs.{needs}
 use Rattle.plan.proofs.widths.node_width.Statement.{statement}
 use Rattle.plan.proofs.widths.node_width.Tie as tie
@@ -105,13 +105,13 @@ element-copy-out-join-width : tie.Need-element-copy-out-join-width
 element-copy-out-join-width c =
     let o = c .before .before .before .before .before .before .before .before .before .before .before .before .before in
     let s = o .before .before in
-    omega (arith, right-below _ (s .pre .0) _ (s .pre .1) (o .operator .ensures) (omega arith) (c .before .right .ensures) (c .wide2 .ensures), limited _ (s .pre .0 .sized) .nodes-few)
+    omega (arith, right-below _ (s .pre .0) _ (s .pre .1) (o .operator .ensures) (join-right _ (s .pre .0) _ (s .pre .1) (o .operator .ensures) (omega arith)) (c .before .right .ensures) (c .wide2 .ensures), limited _ (s .pre .0 .sized) .nodes-few)
 
 join-width-requires : tie.Need-join-width-requires
 join-width-requires c κs =
     let o = c .before .before .before .before .before .before .before .before .before .before .before .before .before .before in
     let s = o .before .before in
-    (s .pre .2 _ (left-below _ (s .pre .0) _ (s .pre .1) (o .operator .ensures) (omega arith) (c .before .before .before .before .before .before .before .before .before .before .before .before .before .left .ensures) (c .before .before .before .before .before .before .before .before .wide .ensures)), s .pre .2 _ (right-below _ (s .pre .0) _ (s .pre .1) (o .operator .ensures) (omega arith) (c .before .before .right .ensures) (c .before .wide2 .ensures)))
+    (s .pre .2 _ (left-below _ (s .pre .0) _ (s .pre .1) (o .operator .ensures) (omega arith) (c .before .before .before .before .before .before .before .before .before .before .before .before .before .left .ensures) (c .before .before .before .before .before .before .before .before .wide .ensures)), s .pre .2 _ (right-below _ (s .pre .0) _ (s .pre .1) (o .operator .ensures) (join-right _ (s .pre .0) _ (s .pre .1) (o .operator .ensures) (omega arith)) (c .before .before .right .ensures) (c .before .wide2 .ensures)))
 
 returns-7 : tie.Need-returns-7
 returns-7 c =

@@ -7,7 +7,7 @@ use lib.ListN.{length, getD, length-set}
 use Rattle.algebra.specs.Lists.{keep, upto}
 use Rattle.plan.specs.Verdict.{widthAt, isTooWide}
 use Rattle.plan.proofs.Laws.Formed.{limited}
-use Rattle.plan.proofs.Laws.Reach.{table-more}
+use Rattle.plan.proofs.Laws.Loops.{table-more}
 use Rattle.plan.proofs.Laws.Widths.{rows-low, width-is, measured-wide, narrow-more, measured-all}
 use Rattle.plan.proofs.widths.work_out_widths.Statement.{statement}
 use Rattle.plan.proofs.widths.work_out_widths.Tie as tie
