@@ -3,9 +3,9 @@ pub mod Sets
 pub mod Domains
 pub mod Pages
 pub mod Writer
-pub mod Moved
 pub mod Reads
 pub mod Keys
+pub mod Moved
 pub mod Columns
 pub mod ColumnsWritten
 pub mod ColumnsUnder
@@ -21,3 +21,13 @@ pub mod Rules
 pub mod Emitted
 pub mod Joined
 pub mod Finish
+pub mod Fuel
+pub mod Inputs
+pub mod Standing
+pub mod LeftRead
+pub mod Put
+pub mod Copies
+pub mod Closed
+pub mod Steps
+pub mod Output
+pub mod Answer

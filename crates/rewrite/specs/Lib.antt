@@ -6,4 +6,6 @@ pub mod Pages
 pub mod Items
 pub mod Reads
 pub mod Under
+pub mod Closing
 pub mod Output
+pub mod Outcomes

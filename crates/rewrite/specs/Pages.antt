@@ -2,7 +2,7 @@
 use mathlib.Core.Path.{_≡_}
 use mathlib.Core.Bool.{true, false, cond, _||_}
 use mathlib.Core.List.{List, [], _∷_, _++_}
-use Prim.Native.Nat.{ℕ, _+_, _*_, _≤_}
+use Prim.Native.Nat.{ℕ, _+_, _*_, _<_, _≤_}
 use lib.Dec.{eqb}
 use lib.ListN.{length, getD, take}
 use Rattle.algebra.specs.Lists.{each}
@@ -80,6 +80,11 @@ Pushed nodes nodes′ rows rows′ c c′ first head extra =
 abbrev pub Grows : List ℕ → List ℕ → List ℕ → List ℕ → List ℕ → List ℕ → Cursor → Cursor → (List Node → List Node) → Type 0
 Grows nodes nodes′ items items′ rows rows′ c c′ f =
     (widths : List ℕ) (out : List Node) → Page widths nodes items rows c out [] → Page widths nodes′ items′ rows′ c′ (f out) []
+
+-- node i is there and has width w
+pub record Stands (widths : List ℕ) (out : List Node) (i w : ℕ) : Type 0 where
+  pub inside : i < length out
+  pub width : shapeAt widths out i .width ≡ w
 
 -- the same over the widths of one plan's tables
 abbrev pub GrowsOver : List ℕ → List ℕ → List ℕ → List ℕ → List ℕ → List ℕ → List ℕ → Cursor → Cursor → (List Node → List Node) → Type 0

@@ -1,9 +1,10 @@
 -- A node under a domain, by its number: what its piece puts.
-use mathlib.Core.Bool.{cond}
+use mathlib.Core.Path.{_≡_}
+use mathlib.Core.Bool.{true, cond}
 use mathlib.Core.List.{List, [], _∷_, _++_, map}
 use Prim.Native.Nat.{ℕ, zero, suc, _+_, _<_}
 use lib.Dec.{eqb}
-use lib.ListN.{length}
+use lib.ListN.{length, getD}
 use Rattle.algebra.specs.Lists.{keep, Every, upto}
 use Rattle.algebra.specs.Plan.{Node, scan, select, compute, project, join, group, groupjoin, dependent}
 use Rattle.algebra.specs.Columns.{Column, shapeAt, closed}
@@ -12,6 +13,11 @@ use Rattle.algebra.specs.Rewriting.{Placed, Piece, emit, dropping, closedPut, o
 use Rattle.plan.specs.Words.{operator, itemCount, itemsOf}
 use Rattle.plan.specs.Items.{isConjunct}
 use Rattle.plan.specs.Plan.{nodeAt, widthsOf, nodesOf}
+use Rattle.rewrite.specs.declared.domain.Domain as code
+use Rattle.rewrite.specs.declared.page.Cursor.{Cursor}
+use Rattle.rewrite.specs.Domains.{Means}
+use Rattle.rewrite.specs.Reads.{readsAt}
+use Rattle.rewrite.specs.Pages.{Stands, Page}
 
 module _ (ws : List ℕ) (images : ℕ → ℕ) where
   -- inputs are below, so that n + 1 levels of calls are enough for node n
@@ -27,6 +33,16 @@ module _ (ws : List ℕ) (images : ℕ → ℕ) where
 -- every column of cs has its place in D
 abbrev pub Within : Domain → List Column → Type 0
 Within D cs = Every (λ c. D .place (c .level) (c .position) < D .width) cs
+
+-- what stands among the nodes out before node n is put under D: the node of D, and the copies of the closed nodes below n, with their widths
+pub record Ready (ws : List ℕ) (images : ℕ → ℕ) (n : ℕ) (D : Domain) (out : List Node) : Type 0 where
+  pub domain : Stands (widthsOf ws) out (D .node) (D .width)
+  pub copies : (i : ℕ) → i < n → closed (shapeAt (widthsOf ws) (nodesOf ws) i) ≡ true → Stands (widthsOf ws) out (images i) (shapeAt (widthsOf ws) (nodesOf ws) i .width)
+
+-- the nodes out have become those with node n put under the domain that d means
+pub record Puts (ws images : List ℕ) (n : ℕ) (d : code.Domain) (nodes nodes′ items items′ rows rows′ : List ℕ) (c c′ : Cursor) : Type 0 where
+  pub written : (D : Domain) (out : List Node) → Means d D → Within D (readsAt ws n) → Ready ws (λ i. getD images i 0) n D out
+      → Page (widthsOf ws) nodes items rows c out [] → Page (widthsOf ws) nodes′ items′ rows′ c′ (put ws (λ i. getD images i 0) (suc n) n D out .out) []
 
 -- how many of a node's items are conjuncts, where it has conjuncts and at most aggregates behind them
 abbrev pub conjunctCount : List ℕ → ℕ → ℕ

@@ -1,7 +1,68 @@
-// The rewriter, as far as it stands: what writes the nodes of a rule.
+// The rewriter: a plan without dependent joins.
 mod sets; // read columns as a u64 set
 mod domain; // a domain, and where an outer column stands in it
 mod page; // what has been written
 mod writer; // the items of a node that is written next
 mod reads; // the columns that each node reads, and a new domain's keys
 mod finish; // the nodes of a rule, once its inputs stand
+mod put; // a node under a domain
+mod steps; // closed nodes in number order
+mod output; // the new words
+
+use output::total_words;
+use output::write_table;
+use plan::Refusal;
+use plan::Verdict;
+use plan::check;
+use plan::reach::work_out_reaches;
+use plan::widths::work_out_widths;
+use reads::work_out_reads;
+use steps::rewrite_nodes;
+ghost use mathlib.Core.Path.{_≡_};
+ghost use lib.ListN.{length};
+ghost use Rattle.plan.specs.Verdict.{verdict, accepted};
+ghost use Rattle.rewrite.specs.Answer.{rewriting, outputAfter};
+ghost use Rattle.rewrite.specs.Outcomes.{outcomeOf};
+
+pub enum Rewritten {
+    Words(u32),
+    Refused(Refusal),
+    OverLimits,
+    NoRoom,
+}
+
+// An accepted plan.
+fn rewrite_accepted(words: &[u32], out: &mut [u32]) -> Rewritten
+    requires { ⌜ verdict (now words) ≡ accepted ⌝ }
+    ensures { λ r. ⌜ outcomeOf r ≡ rewriting (now (words .entry)) (length (now (out .entry))) ⌝ }
+    ensures { λ _. ⌜ now (out .exit) ≡ outputAfter (now (words .entry)) (now (out .entry)) ⌝ }
+{
+    let widths = work_out_widths(words);
+    let rows = widths.rows;
+    let reaches = work_out_reaches(words);
+    let reads = work_out_reads(words);
+    let mut nodes = [0u32; 1536];
+    let mut items = [0u32; 14000];
+    let c = rewrite_nodes(words, &reaches, &rows, &reads, &mut nodes, &mut items);
+    if !c.ok {
+        return Rewritten::OverLimits;
+    }
+    let total = total_words(words, c);
+    if out.len() < total {
+        return Rewritten::NoRoom;
+    }
+    write_table(words, c, &nodes, &items, out);
+    Rewritten::Words(total as u32)
+}
+
+// Any slice of words and any output get document 01's answer.
+pub fn rewrite(words: &[u32], out: &mut [u32]) -> Rewritten
+    ensures { λ r. ⌜ outcomeOf r ≡ rewriting (now (words .entry)) (length (now (out .entry))) ⌝ }
+    ensures { λ _. ⌜ now (out .exit) ≡ outputAfter (now (words .entry)) (now (out .entry)) ⌝ }
+{
+    let v = check(words);
+    match v {
+        Verdict::Accepted => rewrite_accepted(words, out),
+        Verdict::Refused(r) => Rewritten::Refused(r),
+    }
+}

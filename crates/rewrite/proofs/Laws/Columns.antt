@@ -162,7 +162,7 @@ module _ (D : Domain) (w : ℕ) (reads : List Column) where
   keys-ranked = rank-below (domainKeys D w reads) (ranks _ (D .width + w))
 
   -- a column that the right side reads stands in the row of the left side
-  spot-below : (l p : ℕ) → InLeft w l p → Held D (pastOne l p) → spot D l p < D .width + w
+  pub spot-below : (l p : ℕ) → InLeft w l p → Held D (pastOne l p) → spot D l p < D .width + w
   spot-below zero p i h = omega arith
   spot-below (suc l) p i h = let g : D .place l p < D .width = every-head h in omega arith
 

@@ -81,14 +81,14 @@ module _ (widths : List ℕ) (out : List Node) (at : ℕ → Piece) (count : ℕ
 
 module _ (widths : List ℕ) where
   -- a node whose columns are there in some rows around
-  abbrev Legal : List Node → Node → Type 0
+  abbrev pub Legal : List Node → Node → Type 0
   Legal ns n = (scope : List ℕ) × (columnsThere (widthIn widths ns) scope n ≡ true)
 
   -- what is known after the nodes ns
-  record Built (ns : List Node) (s : State) : Type 0 where
-    shaped : Shaped widths ns s
-    pieces : Every (Sits widths (s .out)) (s .pieces)
-    sound : Sound widths (s .out)
+  pub record Built (ns : List Node) (s : State) : Type 0 where
+    pub shaped : Shaped widths ns s
+    pub pieces : Every (Sits widths (s .out)) (s .pieces)
+    pub sound : Sound widths (s .out)
 
   -- one more piece
   built-snoc : (ns : List Node) (s : State) (n : Node) (out : List Node) (p : Piece) → Built ns s → p .shape ≡ shapeOf widths (λ i. pieceAt s i .shape) n → Grows widths (s .out) out → Sits widths out p
@@ -100,7 +100,7 @@ module _ (widths : List ℕ) where
   }
 
   -- one more node: a closed one is written, an open one waits for a domain
-  built-step : (ns : List Node) (s : State) (n : Node) → Built ns s → Fine (shapeAt widths ns) (length ns) n → Legal ns n → Built (ns ++ (n ∷ [])) (step widths s n)
+  pub built-step : (ns : List Node) (s : State) (n : Node) → Built ns s → Fine (shapeAt widths ns) (length ns) n → Legal ns n → Built (ns ++ (n ∷ [])) (step widths s n)
   unfolding step
   built-step ns s n v f legal = go (isEmpty (sh .reads)) refl
     where
@@ -132,7 +132,7 @@ module _ (widths : List ℕ) where
           (record { copied = λ t. absurd (true≢false (sym t ∙ e)); puts = λ D before ex sd held. open-node widths (s .out) at (length ns) sits D before ex sd (legal .0) n fine e there held })
 
   -- a node of a plan looks only at the nodes before it
-  legal-before : (front back : List Node) (n : Node) → Fine (shapeAt widths front) (length front) n → Legal (front ++ back) n → Legal front n
+  pub legal-before : (front back : List Node) (n : Node) → Fine (shapeAt widths front) (length front) n → Legal (front ++ back) n → Legal front n
   legal-before front back n f legal =
       (legal .0, sym (columns-same (widthIn widths (front ++ back)) (widthIn widths front) (legal .0) n (every-map (λ j h. ap (λ (r : Shape). r .width) (entry-before shapeless (shapeOf widths) front back j h)) (fine-below _ _ n f))) ∙ legal .1)
 

@@ -27,7 +27,7 @@ use Rattle.rewrite.proofs.Laws.Rules.{Written, headOf}
 -- ---- one node more
 
 -- the items of the next node begin behind those of the others
-first-of : (widths nodes items items′ rows : List ℕ) (c c′ : Cursor) (out : List Node) (new : List (List ℕ)) → Page widths nodes items rows c out [] → Page widths nodes items′ rows c′ out new
+pub first-of : (widths nodes items items′ rows : List ℕ) (c c′ : Cursor) (out : List Node) (new : List (List ℕ)) → Page widths nodes items rows c out [] → Page widths nodes items′ rows c′ out new
     → c′ .ok ≡ true → c .items ≡ length (allItems out)
 first-of widths nodes items items′ rows c c′ out new p q t = go (c .ok) refl
   where

@@ -1,0 +1,296 @@
+use mathlib.Core.Path.{_∙_, ap}
+use native.Mathlib.Omega.{arith}
+use lib.ListN.{getD}
+use Rattle.plan.specs.Words.{left, right}
+use Rattle.rewrite.proofs.Laws.Put.{both-put, closed-put, copy-put, inner-sound, is-closed, is-open, left-less, left-over, no-right, node-index, one-put, one-right, reads-eight, reads-none, reads-some, right-less, set-over, set-put, width-few, width-is}
+use Rattle.rewrite.proofs.Laws.Fuel.{not-scan}
+use borrow.Author.Needs.{needs}
+use Prim.Native.Nat.{ℕ, _<_}
+use borrow.Fn.Kinds.{In}
+use borrow.Fn.PlainCycle.{Measures, is, falls, and}
+use Rattle.rewrite.proofs.put.put.Reads as put
+use Rattle.rewrite.proofs.put.put.Kinds as put-kinds
+use Rattle.rewrite.proofs.put.+put.Lts-put as put-lts
+use Rattle.plan.proofs.words.left.Reads as left-reads
+use Rattle.plan.proofs.words.operator.Reads as operator-reads
+use Rattle.plan.proofs.words.right.Reads as right-reads
+use Rattle.plan.proofs.words.wide.Reads as wide-reads
+use Rattle.rewrite.proofs.domain.inner.Reads as inner-reads
+use Rattle.rewrite.proofs.finish.domain_node.Reads as domain-node-reads
+use Rattle.rewrite.proofs.finish.over_input.Reads as over-input-reads
+use Rattle.rewrite.proofs.finish.with_copy.Reads as with-copy-reads
+use Rattle.rewrite.proofs.finish.with_inner.Reads as with-inner-reads
+use Rattle.rewrite.proofs.finish.with_open.Reads as with-open-reads
+use Rattle.rewrite.proofs.page.last.Reads as last-reads
+use Rattle.rewrite.proofs.page.push_node.Reads as push-node-reads
+use Rattle.rewrite.proofs.put.has_right.Reads as has-right-reads
+use Rattle.rewrite.proofs.put.reads_left.Reads as reads-left-reads
+use Rattle.rewrite.proofs.put.right_domain.Reads as right-domain-reads
+use Rattle.rewrite.proofs.reads.key_set.Reads as key-set-reads
+use Rattle.rewrite.proofs.put.+put.{statement}
+use Rattle.rewrite.proofs.put.+put.Tie.{close}
+
+abbrev μ-put : Measures 8 put-kinds.ps ℕ
+μ-put κs a = a .1 .0
+
+abbrev put-at : ℕ → In 8 put-kinds.ps
+put-at t = and 8 put-kinds.ps (is 8 put-kinds.ps μ-put t) put.Pre
+
+abbrev put-below : ℕ → In 8 put-kinds.ps
+put-below t = and 8 put-kinds.ps (falls 8 put-kinds.ps _<_ μ-put t) put.Pre
+
+abbrev put-calls : ℕ → put-lts.Claims
+put-calls t = (wide-reads.Asked, wide-reads.Learnt, push-node-reads.Asked, push-node-reads.Learnt, left-reads.Asked, left-reads.Learnt, put-below t, put.Post, last-reads.Asked, last-reads.Learnt, operator-reads.Asked, operator-reads.Learnt, has-right-reads.Asked, has-right-reads.Learnt, over-input-reads.Asked, over-input-reads.Learnt, right-reads.Asked, right-reads.Learnt, reads-left-reads.Asked, reads-left-reads.Learnt, key-set-reads.Asked, key-set-reads.Learnt, domain-node-reads.Asked, domain-node-reads.Learnt, inner-reads.Asked, inner-reads.Learnt, with-inner-reads.Asked, with-inner-reads.Learnt, with-copy-reads.Asked, with-copy-reads.Learnt, right-domain-reads.Asked, right-domain-reads.Learnt, with-open-reads.Asked, with-open-reads.Learnt)
+
+put-wide-requires : (t : ℕ) → put-lts.Need-wide-requires (put-calls t) (put-at t) put.Post
+put-wide-requires t c κs = search needs
+
+put-mul-if1 : (t : ℕ) → put-lts.Need-mul-if1 (put-calls t) (put-at t) put.Post
+put-mul-if1 t c = search needs
+
+put-element-copy-out-if1 : (t : ℕ) → put-lts.Need-element-copy-out-if1 (put-calls t) (put-at t) put.Post
+put-element-copy-out-if1 t c =
+    let s = c .before .before in
+    node-index (s .args .words .now) (s .pre .1 .0) (s .args .n) (s .pre .1 .1) (c .wide .ensures)
+
+put-wide-requires-2 : (t : ℕ) → put-lts.Need-wide-requires-2 (put-calls t) (put-at t) put.Post
+put-wide-requires-2 t c κs = search needs
+
+put-mul-t31 : (t : ℕ) → put-lts.Need-mul-t31 (put-calls t) (put-at t) put.Post
+put-mul-t31 t c = search needs
+
+put-element-copy-out-t34 : (t : ℕ) → put-lts.Need-element-copy-out-t34 (put-calls t) (put-at t) put.Post
+put-element-copy-out-t34 t c =
+    let s = c .before .before .before .before .before .before .before in
+    node-index (s .args .words .now) (s .pre .1 .0) (s .args .n) (s .pre .1 .1) (c .wide2 .ensures)
+
+put-push-node-requires : (t : ℕ) → put-lts.Need-push-node-requires (put-calls t) (put-at t) put.Post
+put-push-node-requires t c κs = search needs
+
+put-returns : (t : ℕ) → put-lts.Need-returns (put-calls t) (put-at t) put.Post
+put-returns t c =
+    let s = c .before .before .before .before .before .before .before .before .before in
+    closed-put (s .args .words .now) (s .args .images .now) (s .pre .1 .0) (s .args .n) (s .pre .1 .1) (is-closed (s .args .words .now) (s .args .reaches .now) (s .pre .1 .3) (s .args .n) (s .pre .1 .1) (c .before .before .before .before .before .before .before .wide .ensures) (c .before .before .before .before .before .if1 .taken)) _ _ _ _ _ _ _ (c .before .before .wide2 .ensures) (c .push-node .ensures)
+
+put-left-requires : (t : ℕ) → put-lts.Need-left-requires (put-calls t) (put-at t) put.Post
+put-left-requires t c κs = search needs
+
+put-put-requires : (t : ℕ) → put-lts.Need-put-requires (put-calls t) (put-at t) put.Post
+put-put-requires t c κs =
+    let s = c .before .before .before .before .before .before .before .before in
+    let less = left-less (s .args .words .now) (s .pre .1 .0) (s .args .n) (s .pre .1 .1) (is-open (s .args .words .now) (s .args .reaches .now) (s .pre .1 .3) (s .args .n) (s .pre .1 .1) (c .before .before .before .before .before .before .wide .ensures) (c .before .before .before .before .if1 .left)) in
+    (omega (arith, less, s .pre .0, c .before .before .before .left .ensures), ((s .pre .1 .0), omega (arith, less, c .before .before .before .left .ensures), s .pre .1 .2, s .pre .1 .3, s .pre .1 .4, s .pre .1 .5))
+
+put-returns-2 : (t : ℕ) → put-lts.Need-returns-2 (put-calls t) (put-at t) put.Post
+put-returns-2 t c =
+    let s = c .before .before .before .before .before .before .before .before .before .before .before in
+    left-over (s .args .words .now) (s .args .images .now) (s .pre .1 .0) (s .args .n) (s .pre .1 .1) (is-open (s .args .words .now) (s .args .reaches .now) (s .pre .1 .3) (s .args .n) (s .pre .1 .1) (c .before .before .before .before .before .before .before .before .before .wide .ensures) (c .before .before .before .before .before .before .before .if1 .left)) (c .before .before .before .before .before .before .left .ensures) (c .before .before .put .ensures) (c .if2 .taken)
+
+put-last-requires : (t : ℕ) → put-lts.Need-last-requires (put-calls t) (put-at t) put.Post
+put-last-requires t c κs = search needs
+
+put-operator-requires : (t : ℕ) → put-lts.Need-operator-requires (put-calls t) (put-at t) put.Post
+put-operator-requires t c κs = search needs
+
+put-has-right-requires : (t : ℕ) → put-lts.Need-has-right-requires (put-calls t) (put-at t) put.Post
+put-has-right-requires t c κs = search needs
+
+put-over-input-requires : (t : ℕ) → put-lts.Need-over-input-requires (put-calls t) (put-at t) put.Post
+put-over-input-requires t c κs =
+    let s = c .before .before .before .before .before .before .before .before .before .before .before .before .before .before .before .before .before .before in
+    let opened = is-open (s .args .words .now) (s .args .reaches .now) (s .pre .1 .3) (s .args .n) (s .pre .1 .1) (c .before .before .before .before .before .before .before .before .before .before .before .before .before .before .before .before .wide .ensures) (c .before .before .before .before .before .before .before .before .before .before .before .before .before .before .if1 .left) in
+    (s .pre .1 .0, s .pre .1 .1, not-scan (s .args .words .now) (s .pre .1 .0 .formed) (λ i. 0) (s .args .n) (s .pre .1 .1) opened, no-right (s .args .words .now) (s .args .n) (c .before .before .before .before .before .operator .ensures) (c .before .before .before .before .has-right .ensures) (c .before .before .before .if3 .taken), s .pre .1 .2)
+
+put-returns-3 : (t : ℕ) → put-lts.Need-returns-3 (put-calls t) (put-at t) put.Post
+put-returns-3 t c =
+    let s = c .before .before .before .before .before .before .before .before .before .before .before .before .before .before .before .before .before .before .before in
+    one-put (s .args .words .now) (s .args .images .now) (s .pre .1 .0) (s .args .n) (s .pre .1 .1) (is-open (s .args .words .now) (s .args .reaches .now) (s .pre .1 .3) (s .args .n) (s .pre .1 .1) (c .before .before .before .before .before .before .before .before .before .before .before .before .before .before .before .before .before .wide .ensures) (c .before .before .before .before .before .before .before .before .before .before .before .before .before .before .before .if1 .left)) (c .before .before .before .before .before .before .before .before .before .before .before .before .before .before .left .ensures) (c .before .before .before .before .before .before .before .before .before .before .put .ensures) (c .before .before .before .before .before .before .before .before .if2 .left) (c .before .before .before .before .before .before .before .last .ensures) (no-right (s .args .words .now) (s .args .n) (c .before .before .before .before .before .before .operator .ensures) (c .before .before .before .before .before .has-right .ensures) (c .before .before .before .before .if3 .taken)) _ _ _ _ (c .over-input .ensures)
+
+put-right-requires : (t : ℕ) → put-lts.Need-right-requires (put-calls t) (put-at t) put.Post
+put-right-requires t c κs = search needs
+
+put-wide-requires-3 : (t : ℕ) → put-lts.Need-wide-requires-3 (put-calls t) (put-at t) put.Post
+put-wide-requires-3 t c κs = search needs
+
+put-mul-wl : (t : ℕ) → put-lts.Need-mul-wl (put-calls t) (put-at t) put.Post
+put-mul-wl t c = search needs
+
+put-element-copy-out-wl : (t : ℕ) → put-lts.Need-element-copy-out-wl (put-calls t) (put-at t) put.Post
+put-element-copy-out-wl t c =
+    let s = c .before .before .before .before .before .before .before .before .before .before .before .before .before .before .before .before .before in
+    let less = left-less (s .args .words .now) (s .pre .1 .0) (s .args .n) (s .pre .1 .1) (is-open (s .args .words .now) (s .args .reaches .now) (s .pre .1 .3) (s .args .n) (s .pre .1 .1) (c .before .before .before .before .before .before .before .before .before .before .before .before .before .before .before .wide .ensures) (c .before .before .before .before .before .before .before .before .before .before .before .before .before .if1 .left)) in
+    node-index (s .args .words .now) (s .pre .1 .0) (left (s .args .words .now) (s .args .n)) (omega (arith, less)) (c .wide3 .ensures ∙ c .before .before .before .before .before .before .before .before .before .before .before .before .left .ensures)
+
+put-wide-requires-4 : (t : ℕ) → put-lts.Need-wide-requires-4 (put-calls t) (put-at t) put.Post
+put-wide-requires-4 t c κs = search needs
+
+put-mul-wr : (t : ℕ) → put-lts.Need-mul-wr (put-calls t) (put-at t) put.Post
+put-mul-wr t c = search needs
+
+put-element-copy-out-wr : (t : ℕ) → put-lts.Need-element-copy-out-wr (put-calls t) (put-at t) put.Post
+put-element-copy-out-wr t c =
+    let s = c .before .before .before .before .before .before .before .before .before .before .before .before .before .before .before .before .before .before .before in
+    let less = right-less (s .args .words .now) (s .pre .1 .0) (s .args .n) (s .pre .1 .1) (one-right (s .args .words .now) (s .args .n) (c .before .before .before .before .before .before .operator .ensures) (c .before .before .before .before .before .has-right .ensures) (c .before .before .before .before .if3 .left)) in
+    node-index (s .args .words .now) (s .pre .1 .0) (right (s .args .words .now) (s .args .n)) (omega (arith, less)) (c .wide4 .ensures ∙ c .before .before .before .right .ensures)
+
+put-reads-left-requires : (t : ℕ) → put-lts.Need-reads-left-requires (put-calls t) (put-at t) put.Post
+put-reads-left-requires t c κs =
+    let s = c .before .before .before .before .before .before .before .before .before .before .before .before .before .before .before .before .before .before .before .before in
+    ((s .pre .1 .0), (s .pre .1 .1), s .pre .1 .5)
+
+put-key-set-requires : (t : ℕ) → put-lts.Need-key-set-requires (put-calls t) (put-at t) put.Post
+put-key-set-requires t c κs =
+    let s = c .before .before .before .before .before .before .before .before .before .before .before .before .before .before .before .before .before .before .before .before .before .before in
+    let less = right-less (s .args .words .now) (s .pre .1 .0) (s .args .n) (s .pre .1 .1) (one-right (s .args .words .now) (s .args .n) (c .before .before .before .before .before .before .before .before .before .operator .ensures) (c .before .before .before .before .before .before .before .before .has-right .ensures) (c .before .before .before .before .before .before .before .if3 .left)) in
+    (node-index (s .args .words .now) (s .pre .1 .0) (right (s .args .words .now) (s .args .n)) (omega (arith, less)) (c .before .before .before .before .before .before .right .ensures), s .pre .1 .2)
+
+put-domain-node-requires : (t : ℕ) → put-lts.Need-domain-node-requires (put-calls t) (put-at t) put.Post
+put-domain-node-requires t c κs = search needs
+
+put-returns-4 : (t : ℕ) → put-lts.Need-returns-4 (put-calls t) (put-at t) put.Post
+put-returns-4 t c =
+    let s = c .before .before .before .before .before .before .before .before .before .before .before .before .before .before .before .before .before .before .before .before .before .before .before .before .before .before .before .before .before in
+    set-over (s .args .words .now) (s .args .images .now) (s .pre .1 .0) (s .args .n) (s .pre .1 .1) (is-open (s .args .words .now) (s .args .reaches .now) (s .pre .1 .3) (s .args .n) (s .pre .1 .1) (c .before .before .before .before .before .before .before .before .before .before .before .before .before .before .before .before .before .before .before .before .before .before .before .before .before .before .before .wide .ensures) (c .before .before .before .before .before .before .before .before .before .before .before .before .before .before .before .before .before .before .before .before .before .before .before .before .before .if1 .left)) (c .before .before .before .before .before .before .before .before .before .before .before .before .before .before .before .before .before .before .before .before .before .before .before .before .left .ensures) (c .before .before .before .before .before .before .before .before .before .before .before .before .before .before .before .before .before .before .before .before .put .ensures) (c .before .before .before .before .before .before .before .before .before .before .before .before .before .before .before .before .before .before .if2 .left) (c .before .before .before .before .before .before .before .before .before .before .before .before .before .before .before .before .before .last .ensures) (reads-eight (s .args .words .now) (s .args .n) (c .before .before .before .before .before .before .before .before .reads-left .ensures) (c .before .before .before .before .before .before .before .if4 .taken)) (reads-some (s .args .words .now) (s .args .n) (c .before .before .before .before .before .before .before .before .reads-left .ensures) (c .before .before .before .before .before .before .before .if4 .taken)) (c .before .before .before .before .before .before .before .before .before .before .before .before .before .right .ensures) (s .args .reads .now) (s .pre .1 .5) (c .before .before .before .before .before .before .key-set .result) (c .before .before .before .before .before .before .key-set .ensures) _ _ _ _ (c .before .before .domain-node .ensures) (c .if5 .taken)
+
+put-last-requires-2 : (t : ℕ) → put-lts.Need-last-requires-2 (put-calls t) (put-at t) put.Post
+put-last-requires-2 t c κs = search needs
+
+put-inner-requires : (t : ℕ) → put-lts.Need-inner-requires (put-calls t) (put-at t) put.Post
+put-inner-requires t c κs = search needs
+
+put-put-requires-2 : (t : ℕ) → put-lts.Need-put-requires-2 (put-calls t) (put-at t) put.Post
+put-put-requires-2 t c κs =
+    let s = c .before .before .before .before .before .before .before .before .before .before .before .before .before .before .before .before .before .before .before .before .before .before .before .before .before .before .before .before .before .before .before .before .before .before in
+    let less = right-less (s .args .words .now) (s .pre .1 .0) (s .args .n) (s .pre .1 .1) (one-right (s .args .words .now) (s .args .n) (c .before .before .before .before .before .before .before .before .before .before .before .before .before .before .before .before .before .before .before .before .before .operator .ensures) (c .before .before .before .before .before .before .before .before .before .before .before .before .before .before .before .before .before .before .before .before .has-right .ensures) (c .before .before .before .before .before .before .before .before .before .before .before .before .before .before .before .before .before .before .before .if3 .left)) in
+    (omega (arith, less, s .pre .0, c .before .before .before .before .before .before .before .before .before .before .before .before .before .before .before .before .before .before .right .ensures), ((s .pre .1 .0), omega (arith, less, c .before .before .before .before .before .before .before .before .before .before .before .before .before .before .before .before .before .before .right .ensures), inner-sound (c .before .before .before .inner .ensures) (c .before .before .before .before .before .before .before .before .before .before .before .key-set .ok), s .pre .1 .3, s .pre .1 .4, s .pre .1 .5))
+
+put-last-requires-3 : (t : ℕ) → put-lts.Need-last-requires-3 (put-calls t) (put-at t) put.Post
+put-last-requires-3 t c κs = search needs
+
+put-with-inner-requires : (t : ℕ) → put-lts.Need-with-inner-requires (put-calls t) (put-at t) put.Post
+put-with-inner-requires t c κs =
+    let s = c .before .before .before .before .before .before .before .before .before .before .before .before .before .before .before .before .before .before .before .before .before .before .before .before .before .before .before .before .before .before .before .before .before .before .before .before .before .before .before in
+    let lower = left-less (s .args .words .now) (s .pre .1 .0) (s .args .n) (s .pre .1 .1) (is-open (s .args .words .now) (s .args .reaches .now) (s .pre .1 .3) (s .args .n) (s .pre .1 .1) (c .before .before .before .before .before .before .before .before .before .before .before .before .before .before .before .before .before .before .before .before .before .before .before .before .before .before .before .before .before .before .before .before .before .before .before .before .before .wide .ensures) (c .before .before .before .before .before .before .before .before .before .before .before .before .before .before .before .before .before .before .before .before .before .before .before .before .before .before .before .before .before .before .before .before .before .before .before .if1 .left)) in
+    let less = right-less (s .args .words .now) (s .pre .1 .0) (s .args .n) (s .pre .1 .1) (one-right (s .args .words .now) (s .args .n) (c .before .before .before .before .before .before .before .before .before .before .before .before .before .before .before .before .before .before .before .before .before .before .before .before .before .before .operator .ensures) (c .before .before .before .before .before .before .before .before .before .before .before .before .before .before .before .before .before .before .before .before .before .before .before .before .before .has-right .ensures) (c .before .before .before .before .before .before .before .before .before .before .before .before .before .before .before .before .before .before .before .before .before .before .before .before .if3 .left)) in
+    ((s .pre .1 .0), (s .pre .1 .1), (reads-eight (s .args .words .now) (s .args .n) (c .before .before .before .before .before .before .before .before .before .before .before .before .before .before .before .before .before .before .reads-left .ensures) (c .before .before .before .before .before .before .before .before .before .before .before .before .before .before .before .before .before .if4 .taken)), s .pre .1 .2, (width-few (s .args .words .now) (s .pre .1 .0) (s .args .widths .now) (s .pre .1 .4) (left (s .args .words .now) (s .args .n)) (omega (arith, lower)) (c .before .before .before .before .before .before .before .before .before .before .before .before .before .before .before .before .before .before .before .before .before .before .before .before .before .before .before .before .before .before .before .before .before .before .left .ensures) (c .before .before .before .before .before .before .before .before .before .before .before .before .before .before .before .before .before .before .before .before .before .before .wide3 .ensures)), (width-few (s .args .words .now) (s .pre .1 .0) (s .args .widths .now) (s .pre .1 .4) (right (s .args .words .now) (s .args .n)) (omega (arith, less)) (c .before .before .before .before .before .before .before .before .before .before .before .before .before .before .before .before .before .before .before .before .before .before .before .right .ensures) (c .before .before .before .before .before .before .before .before .before .before .before .before .before .before .before .before .before .before .before .before .wide4 .ensures)))
+
+put-returns-5 : (t : ℕ) → put-lts.Need-returns-5 (put-calls t) (put-at t) put.Post
+put-returns-5 t c =
+    let s = c .before .before .before .before .before .before .before .before .before .before .before .before .before .before .before .before .before .before .before .before .before .before .before .before .before .before .before .before .before .before .before .before .before .before .before .before .before .before .before .before in
+    let lower = left-less (s .args .words .now) (s .pre .1 .0) (s .args .n) (s .pre .1 .1) (is-open (s .args .words .now) (s .args .reaches .now) (s .pre .1 .3) (s .args .n) (s .pre .1 .1) (c .before .before .before .before .before .before .before .before .before .before .before .before .before .before .before .before .before .before .before .before .before .before .before .before .before .before .before .before .before .before .before .before .before .before .before .before .before .before .wide .ensures) (c .before .before .before .before .before .before .before .before .before .before .before .before .before .before .before .before .before .before .before .before .before .before .before .before .before .before .before .before .before .before .before .before .before .before .before .before .if1 .left)) in
+    let less = right-less (s .args .words .now) (s .pre .1 .0) (s .args .n) (s .pre .1 .1) (one-right (s .args .words .now) (s .args .n) (c .before .before .before .before .before .before .before .before .before .before .before .before .before .before .before .before .before .before .before .before .before .before .before .before .before .before .before .operator .ensures) (c .before .before .before .before .before .before .before .before .before .before .before .before .before .before .before .before .before .before .before .before .before .before .before .before .before .before .has-right .ensures) (c .before .before .before .before .before .before .before .before .before .before .before .before .before .before .before .before .before .before .before .before .before .before .before .before .before .if3 .left)) in
+    set-put (s .args .words .now) (s .args .images .now) (s .pre .1 .0) (s .args .n) (s .pre .1 .1) (is-open (s .args .words .now) (s .args .reaches .now) (s .pre .1 .3) (s .args .n) (s .pre .1 .1) (c .before .before .before .before .before .before .before .before .before .before .before .before .before .before .before .before .before .before .before .before .before .before .before .before .before .before .before .before .before .before .before .before .before .before .before .before .before .before .wide .ensures) (c .before .before .before .before .before .before .before .before .before .before .before .before .before .before .before .before .before .before .before .before .before .before .before .before .before .before .before .before .before .before .before .before .before .before .before .before .if1 .left)) (c .before .before .before .before .before .before .before .before .before .before .before .before .before .before .before .before .before .before .before .before .before .before .before .before .before .before .before .before .before .before .before .before .before .before .before .left .ensures) (c .before .before .before .before .before .before .before .before .before .before .before .before .before .before .before .before .before .before .before .before .before .before .before .before .before .before .before .before .before .before .before .put .ensures) (c .before .before .before .before .before .before .before .before .before .before .before .before .before .before .before .before .before .before .before .before .before .before .before .before .before .before .before .before .before .if2 .left) (c .before .before .before .before .before .before .before .before .before .before .before .before .before .before .before .before .before .before .before .before .before .before .before .before .before .before .before .before .last .ensures) (reads-eight (s .args .words .now) (s .args .n) (c .before .before .before .before .before .before .before .before .before .before .before .before .before .before .before .before .before .before .before .reads-left .ensures) (c .before .before .before .before .before .before .before .before .before .before .before .before .before .before .before .before .before .before .if4 .taken)) (reads-some (s .args .words .now) (s .args .n) (c .before .before .before .before .before .before .before .before .before .before .before .before .before .before .before .before .before .before .before .reads-left .ensures) (c .before .before .before .before .before .before .before .before .before .before .before .before .before .before .before .before .before .before .if4 .taken)) (c .before .before .before .before .before .before .before .before .before .before .before .before .before .before .before .before .before .before .before .before .before .before .before .before .right .ensures) (s .args .reads .now) (s .pre .1 .5) (c .before .before .before .before .before .before .before .before .before .before .before .before .before .before .before .before .before .key-set .result) (c .before .before .before .before .before .before .before .before .before .before .before .before .before .before .before .before .before .key-set .ensures) _ _ _ _ (c .before .before .before .before .before .before .before .before .before .before .before .before .before .domain-node .ensures) (c .before .before .before .before .before .before .before .before .before .before .before .if5 .left) (c .before .before .before .before .before .before .before .before .before .before .last2 .ensures) (c .before .before .before .before .before .before .before .before .before .inner .ensures) (c .before .before .before .before .before .before .before .before .before .before .before .before .before .before .before .before .before .key-set .ok) (width-is (s .args .words .now) (s .pre .1 .0) (s .args .widths .now) (s .pre .1 .4) (left (s .args .words .now) (s .args .n)) (omega (arith, lower)) (c .before .before .before .before .before .before .before .before .before .before .before .before .before .before .before .before .before .before .before .before .before .before .before .before .before .before .before .before .before .before .before .before .before .before .before .left .ensures) (c .before .before .before .before .before .before .before .before .before .before .before .before .before .before .before .before .before .before .before .before .before .before .before .wide3 .ensures)) (width-is (s .args .words .now) (s .pre .1 .0) (s .args .widths .now) (s .pre .1 .4) (right (s .args .words .now) (s .args .n)) (omega (arith, less)) (c .before .before .before .before .before .before .before .before .before .before .before .before .before .before .before .before .before .before .before .before .before .before .before .before .right .ensures) (c .before .before .before .before .before .before .before .before .before .before .before .before .before .before .before .before .before .before .before .before .before .wide4 .ensures)) (c .before .before .before .before .before .put2 .ensures) (c .before .before .before .before .last3 .ensures) _ _ _ _ (c .with-inner .ensures)
+
+put-wide-requires-5 : (t : ℕ) → put-lts.Need-wide-requires-5 (put-calls t) (put-at t) put.Post
+put-wide-requires-5 t c κs = search needs
+
+put-mul-if6 : (t : ℕ) → put-lts.Need-mul-if6 (put-calls t) (put-at t) put.Post
+put-mul-if6 t c = search needs
+
+put-element-copy-out-if6 : (t : ℕ) → put-lts.Need-element-copy-out-if6 (put-calls t) (put-at t) put.Post
+put-element-copy-out-if6 t c =
+    let s = c .before .before .before .before .before .before .before .before .before .before .before .before .before .before .before .before .before .before .before .before .before .before .before in
+    let less = right-less (s .args .words .now) (s .pre .1 .0) (s .args .n) (s .pre .1 .1) (one-right (s .args .words .now) (s .args .n) (c .before .before .before .before .before .before .before .before .before .before .operator .ensures) (c .before .before .before .before .before .before .before .before .before .has-right .ensures) (c .before .before .before .before .before .before .before .before .if3 .left)) in
+    node-index (s .args .words .now) (s .pre .1 .0) (right (s .args .words .now) (s .args .n)) (omega (arith, less)) (c .wide5 .ensures ∙ c .before .before .before .before .before .before .before .right .ensures)
+
+put-wide-requires-6 : (t : ℕ) → put-lts.Need-wide-requires-6 (put-calls t) (put-at t) put.Post
+put-wide-requires-6 t c κs = search needs
+
+put-mul-with-copy : (t : ℕ) → put-lts.Need-mul-with-copy (put-calls t) (put-at t) put.Post
+put-mul-with-copy t c = search needs
+
+put-element-copy-out-with-copy : (t : ℕ) → put-lts.Need-element-copy-out-with-copy (put-calls t) (put-at t) put.Post
+put-element-copy-out-with-copy t c =
+    let s = c .before .before .before .before .before .before .before .before .before .before .before .before .before .before .before .before .before .before .before .before .before .before .before .before .before .before in
+    let less = right-less (s .args .words .now) (s .pre .1 .0) (s .args .n) (s .pre .1 .1) (one-right (s .args .words .now) (s .args .n) (c .before .before .before .before .before .before .before .before .before .before .before .before .before .operator .ensures) (c .before .before .before .before .before .before .before .before .before .before .before .before .has-right .ensures) (c .before .before .before .before .before .before .before .before .before .before .before .if3 .left)) in
+    node-index (s .args .words .now) (s .pre .1 .0) (right (s .args .words .now) (s .args .n)) (omega (arith, less)) (c .wide6 .ensures ∙ c .before .before .before .before .before .before .before .before .before .before .right .ensures)
+
+put-with-copy-requires : (t : ℕ) → put-lts.Need-with-copy-requires (put-calls t) (put-at t) put.Post
+put-with-copy-requires t c κs =
+    let s = c .before .before .before .before .before .before .before .before .before .before .before .before .before .before .before .before .before .before .before .before .before .before .before .before .before .before .before .before .before .before in
+    (s .pre .1 .0, s .pre .1 .1, one-right (s .args .words .now) (s .args .n) (c .before .before .before .before .before .before .before .before .before .before .before .before .before .before .before .before .before .operator .ensures) (c .before .before .before .before .before .before .before .before .before .before .before .before .before .before .before .before .has-right .ensures) (c .before .before .before .before .before .before .before .before .before .before .before .before .before .before .before .if3 .left), s .pre .1 .2)
+
+put-returns-6 : (t : ℕ) → put-lts.Need-returns-6 (put-calls t) (put-at t) put.Post
+put-returns-6 t c =
+    let s = c .before .before .before .before .before .before .before .before .before .before .before .before .before .before .before .before .before .before .before .before .before .before .before .before .before .before .before .before .before .before .before in
+    let less = right-less (s .args .words .now) (s .pre .1 .0) (s .args .n) (s .pre .1 .1) (one-right (s .args .words .now) (s .args .n) (c .before .before .before .before .before .before .before .before .before .before .before .before .before .before .before .before .before .before .operator .ensures) (c .before .before .before .before .before .before .before .before .before .before .before .before .before .before .before .before .before .has-right .ensures) (c .before .before .before .before .before .before .before .before .before .before .before .before .before .before .before .before .if3 .left)) in
+    copy-put (s .args .words .now) (s .args .images .now) (s .pre .1 .0) (s .args .n) (s .pre .1 .1) (is-open (s .args .words .now) (s .args .reaches .now) (s .pre .1 .3) (s .args .n) (s .pre .1 .1) (c .before .before .before .before .before .before .before .before .before .before .before .before .before .before .before .before .before .before .before .before .before .before .before .before .before .before .before .before .before .wide .ensures) (c .before .before .before .before .before .before .before .before .before .before .before .before .before .before .before .before .before .before .before .before .before .before .before .before .before .before .before .if1 .left)) (c .before .before .before .before .before .before .before .before .before .before .before .before .before .before .before .before .before .before .before .before .before .before .before .before .before .before .left .ensures) (c .before .before .before .before .before .before .before .before .before .before .before .before .before .before .before .before .before .before .before .before .before .before .put .ensures) (c .before .before .before .before .before .before .before .before .before .before .before .before .before .before .before .before .before .before .before .before .if2 .left) (c .before .before .before .before .before .before .before .before .before .before .before .before .before .before .before .before .before .before .before .last .ensures) (one-right (s .args .words .now) (s .args .n) (c .before .before .before .before .before .before .before .before .before .before .before .before .before .before .before .before .before .before .operator .ensures) (c .before .before .before .before .before .before .before .before .before .before .before .before .before .before .before .before .before .has-right .ensures) (c .before .before .before .before .before .before .before .before .before .before .before .before .before .before .before .before .if3 .left)) (is-closed (s .args .words .now) (s .args .reaches .now) (s .pre .1 .3) (right (s .args .words .now) (s .args .n)) (omega (arith, less)) (c .before .before .before .before .before .before .before .before .wide5 .ensures ∙ c .before .before .before .before .before .before .before .before .before .before .before .before .before .before .before .right .ensures) (c .before .before .before .before .before .before .if6 .taken)) (ap (λ (i : ℕ). getD (s .args .images .now) i 0) (c .before .before .before .before .before .wide6 .ensures ∙ c .before .before .before .before .before .before .before .before .before .before .before .before .before .before .before .right .ensures)) _ _ _ _ (c .with-copy .ensures)
+
+put-right-domain-requires : (t : ℕ) → put-lts.Need-right-domain-requires (put-calls t) (put-at t) put.Post
+put-right-domain-requires t c κs =
+    let s = c .before .before .before .before .before .before .before .before .before .before .before .before .before .before .before .before .before .before .before .before .before .before .before .before .before in
+    s .pre .1 .2
+
+put-put-requires-3 : (t : ℕ) → put-lts.Need-put-requires-3 (put-calls t) (put-at t) put.Post
+put-put-requires-3 t c κs =
+    let s = c .before .before .before .before .before .before .before .before .before .before .before .before .before .before .before .before .before .before .before .before .before .before .before .before .before .before .before .before .before in
+    let less = right-less (s .args .words .now) (s .pre .1 .0) (s .args .n) (s .pre .1 .1) (one-right (s .args .words .now) (s .args .n) (c .before .before .before .before .before .before .before .before .before .before .before .before .before .before .before .before .operator .ensures) (c .before .before .before .before .before .before .before .before .before .before .before .before .before .before .before .has-right .ensures) (c .before .before .before .before .before .before .before .before .before .before .before .before .before .before .if3 .left)) in
+    (omega (arith, less, s .pre .0, c .before .before .before .before .before .before .before .before .before .before .before .before .before .right .ensures), ((s .pre .1 .0), omega (arith, less, c .before .before .before .before .before .before .before .before .before .before .before .before .before .right .ensures), c .before .before .before .right-domain .ensures .0, s .pre .1 .3, s .pre .1 .4, s .pre .1 .5))
+
+put-last-requires-4 : (t : ℕ) → put-lts.Need-last-requires-4 (put-calls t) (put-at t) put.Post
+put-last-requires-4 t c κs = search needs
+
+put-with-open-requires : (t : ℕ) → put-lts.Need-with-open-requires (put-calls t) (put-at t) put.Post
+put-with-open-requires t c κs =
+    let s = c .before .before .before .before .before .before .before .before .before .before .before .before .before .before .before .before .before .before .before .before .before .before .before .before .before .before .before .before .before .before .before .before .before .before in
+    let lower = left-less (s .args .words .now) (s .pre .1 .0) (s .args .n) (s .pre .1 .1) (is-open (s .args .words .now) (s .args .reaches .now) (s .pre .1 .3) (s .args .n) (s .pre .1 .1) (c .before .before .before .before .before .before .before .before .before .before .before .before .before .before .before .before .before .before .before .before .before .before .before .before .before .before .before .before .before .before .before .before .wide .ensures) (c .before .before .before .before .before .before .before .before .before .before .before .before .before .before .before .before .before .before .before .before .before .before .before .before .before .before .before .before .before .before .if1 .left)) in
+    let less = right-less (s .args .words .now) (s .pre .1 .0) (s .args .n) (s .pre .1 .1) (one-right (s .args .words .now) (s .args .n) (c .before .before .before .before .before .before .before .before .before .before .before .before .before .before .before .before .before .before .before .before .before .operator .ensures) (c .before .before .before .before .before .before .before .before .before .before .before .before .before .before .before .before .before .before .before .before .has-right .ensures) (c .before .before .before .before .before .before .before .before .before .before .before .before .before .before .before .before .before .before .before .if3 .left)) in
+    (s .pre .1 .0, s .pre .1 .1, one-right (s .args .words .now) (s .args .n) (c .before .before .before .before .before .before .before .before .before .before .before .before .before .before .before .before .before .before .before .before .before .operator .ensures) (c .before .before .before .before .before .before .before .before .before .before .before .before .before .before .before .before .before .before .before .before .has-right .ensures) (c .before .before .before .before .before .before .before .before .before .before .before .before .before .before .before .before .before .before .before .if3 .left), s .pre .1 .2, (width-few (s .args .words .now) (s .pre .1 .0) (s .args .widths .now) (s .pre .1 .4) (left (s .args .words .now) (s .args .n)) (omega (arith, lower)) (c .before .before .before .before .before .before .before .before .before .before .before .before .before .before .before .before .before .before .before .before .before .before .before .before .before .before .before .before .before .left .ensures) (c .before .before .before .before .before .before .before .before .before .before .before .before .before .before .before .before .before .wide3 .ensures)), (width-few (s .args .words .now) (s .pre .1 .0) (s .args .widths .now) (s .pre .1 .4) (right (s .args .words .now) (s .args .n)) (omega (arith, less)) (c .before .before .before .before .before .before .before .before .before .before .before .before .before .before .before .before .before .before .right .ensures) (c .before .before .before .before .before .before .before .before .before .before .before .before .before .before .before .wide4 .ensures)))
+
+put-returns-7 : (t : ℕ) → put-lts.Need-returns-7 (put-calls t) (put-at t) put.Post
+put-returns-7 t c =
+    let s = c .before .before .before .before .before .before .before .before .before .before .before .before .before .before .before .before .before .before .before .before .before .before .before .before .before .before .before .before .before .before .before .before .before .before .before in
+    let lower = left-less (s .args .words .now) (s .pre .1 .0) (s .args .n) (s .pre .1 .1) (is-open (s .args .words .now) (s .args .reaches .now) (s .pre .1 .3) (s .args .n) (s .pre .1 .1) (c .before .before .before .before .before .before .before .before .before .before .before .before .before .before .before .before .before .before .before .before .before .before .before .before .before .before .before .before .before .before .before .before .before .wide .ensures) (c .before .before .before .before .before .before .before .before .before .before .before .before .before .before .before .before .before .before .before .before .before .before .before .before .before .before .before .before .before .before .before .if1 .left)) in
+    let less = right-less (s .args .words .now) (s .pre .1 .0) (s .args .n) (s .pre .1 .1) (one-right (s .args .words .now) (s .args .n) (c .before .before .before .before .before .before .before .before .before .before .before .before .before .before .before .before .before .before .before .before .before .before .operator .ensures) (c .before .before .before .before .before .before .before .before .before .before .before .before .before .before .before .before .before .before .before .before .before .has-right .ensures) (c .before .before .before .before .before .before .before .before .before .before .before .before .before .before .before .before .before .before .before .before .if3 .left)) in
+    both-put (s .args .words .now) (s .args .images .now) (s .pre .1 .0) (s .args .n) (s .pre .1 .1) (is-open (s .args .words .now) (s .args .reaches .now) (s .pre .1 .3) (s .args .n) (s .pre .1 .1) (c .before .before .before .before .before .before .before .before .before .before .before .before .before .before .before .before .before .before .before .before .before .before .before .before .before .before .before .before .before .before .before .before .before .wide .ensures) (c .before .before .before .before .before .before .before .before .before .before .before .before .before .before .before .before .before .before .before .before .before .before .before .before .before .before .before .before .before .before .before .if1 .left)) (c .before .before .before .before .before .before .before .before .before .before .before .before .before .before .before .before .before .before .before .before .before .before .before .before .before .before .before .before .before .before .left .ensures) (c .before .before .before .before .before .before .before .before .before .before .before .before .before .before .before .before .before .before .before .before .before .before .before .before .before .before .put .ensures) (c .before .before .before .before .before .before .before .before .before .before .before .before .before .before .before .before .before .before .before .before .before .before .before .before .if2 .left) (c .before .before .before .before .before .before .before .before .before .before .before .before .before .before .before .before .before .before .before .before .before .before .before .last .ensures) (one-right (s .args .words .now) (s .args .n) (c .before .before .before .before .before .before .before .before .before .before .before .before .before .before .before .before .before .before .before .before .before .before .operator .ensures) (c .before .before .before .before .before .before .before .before .before .before .before .before .before .before .before .before .before .before .before .before .before .has-right .ensures) (c .before .before .before .before .before .before .before .before .before .before .before .before .before .before .before .before .before .before .before .before .if3 .left)) (width-is (s .args .words .now) (s .pre .1 .0) (s .args .widths .now) (s .pre .1 .4) (left (s .args .words .now) (s .args .n)) (omega (arith, lower)) (c .before .before .before .before .before .before .before .before .before .before .before .before .before .before .before .before .before .before .before .before .before .before .before .before .before .before .before .before .before .before .left .ensures) (c .before .before .before .before .before .before .before .before .before .before .before .before .before .before .before .before .before .before .wide3 .ensures)) (width-is (s .args .words .now) (s .pre .1 .0) (s .args .widths .now) (s .pre .1 .4) (right (s .args .words .now) (s .args .n)) (omega (arith, less)) (c .before .before .before .before .before .before .before .before .before .before .before .before .before .before .before .before .before .before .before .right .ensures) (c .before .before .before .before .before .before .before .before .before .before .before .before .before .before .before .before .wide4 .ensures)) (c .before .before .before .before .before .before .before .before .before .before .before .before .before .before .before .before .before .before .before .right .ensures) (is-open (s .args .words .now) (s .args .reaches .now) (s .pre .1 .3) (right (s .args .words .now) (s .args .n)) (omega (arith, less)) (c .before .before .before .before .before .before .before .before .before .before .before .before .wide5 .ensures ∙ c .before .before .before .before .before .before .before .before .before .before .before .before .before .before .before .before .before .before .before .right .ensures) (c .before .before .before .before .before .before .before .before .before .before .if6 .left)) (reads-none (s .args .words .now) (s .args .n) (c .before .before .before .before .before .before .before .before .before .before .before .before .before .before .reads-left .ensures) (c .before .before .before .before .before .before .before .before .before .before .before .before .before .if4 .left)) (c .before .before .before .before .before .before .before .before .before .right-domain .ensures .1) (c .before .before .before .before .before .put3 .ensures) (c .before .before .before .before .last4 .ensures) _ _ _ _ (c .with-open .ensures)
+
+pub +put-spec : {M : Type 1} → statement M
++put-spec = close μ-put λ t. put-lts.spec (put-calls t)
+    (put-at t)
+    put.Post
+    (put-wide-requires t)
+    (put-mul-if1 t)
+    (put-element-copy-out-if1 t)
+    (put-wide-requires-2 t)
+    (put-mul-t31 t)
+    (put-element-copy-out-t34 t)
+    (put-push-node-requires t)
+    (put-returns t)
+    (put-left-requires t)
+    (put-put-requires t)
+    (put-returns-2 t)
+    (put-last-requires t)
+    (put-operator-requires t)
+    (put-has-right-requires t)
+    (put-over-input-requires t)
+    (put-returns-3 t)
+    (put-right-requires t)
+    (put-wide-requires-3 t)
+    (put-mul-wl t)
+    (put-element-copy-out-wl t)
+    (put-wide-requires-4 t)
+    (put-mul-wr t)
+    (put-element-copy-out-wr t)
+    (put-reads-left-requires t)
+    (put-key-set-requires t)
+    (put-domain-node-requires t)
+    (put-returns-4 t)
+    (put-last-requires-2 t)
+    (put-inner-requires t)
+    (put-put-requires-2 t)
+    (put-last-requires-3 t)
+    (put-with-inner-requires t)
+    (put-returns-5 t)
+    (put-wide-requires-5 t)
+    (put-mul-if6 t)
+    (put-element-copy-out-if6 t)
+    (put-wide-requires-6 t)
+    (put-mul-with-copy t)
+    (put-element-copy-out-with-copy t)
+    (put-with-copy-requires t)
+    (put-returns-6 t)
+    (put-right-domain-requires t)
+    (put-put-requires-3 t)
+    (put-last-requires-4 t)
+    (put-with-open-requires t)
+    (put-returns-7 t)

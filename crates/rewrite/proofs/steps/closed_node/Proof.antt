@@ -1,0 +1,235 @@
+use mathlib.Core.Path.{_≡_, _∙_, ap, sym}
+use mathlib.Core.Bool.{false}
+use mathlib.Core.Logic.{⊎-elim}
+use mathlib.Core.List.{List}
+use Prim.Native.Nat.{ℕ, _<_}
+use native.Mathlib.Omega.{arith}
+use lib.ListN.{getD}
+use borrow.Author.Tests.{not-true, not-false}
+use Rattle.algebra.specs.Columns.{closed, shapeAt}
+use Rattle.algebra.specs.Domains.{domainKeys, outside}
+use Rattle.plan.specs.Words.{left, nodes, operator, right}
+use Rattle.plan.specs.Plan.{nodesOf, widthsOf}
+use Rattle.plan.specs.Verdict.{widthAt}
+use Rattle.rewrite.specs.Sets.{members}
+use Rattle.rewrite.specs.Reads.{readsAt}
+use Rattle.rewrite.proofs.Laws.Domains.{inner-domain}
+use Rattle.rewrite.proofs.Laws.Put.{inner-sound, is-closed, is-open, node-index, width-few, width-is}
+use Rattle.rewrite.proofs.Laws.Closed.{left-node, right-node, keys-are, domain-over, inner-closes, copy-closes}
+use borrow.Author.Needs.{needs}
+use Rattle.rewrite.proofs.steps.closed_node.Statement.{statement}
+use Rattle.rewrite.proofs.steps.closed_node.Tie as tie
+
+-- ---- what is known once both inputs are read
+
+abbrev start : tie.After-right → tie.Start
+start c = c .before .before .before .before .before
+
+abbrev ws : tie.After-right → List ℕ
+ws c = start c .args .words .now
+
+eight : (c : tie.After-right) → operator (ws c) (start c .args .n) ≡ 8
+eight c = sym (c .before .before .before .operator .ensures) ∙ c .before .before .if1 .taken
+
+-- the inputs are nodes of the plan
+there-left : (c : tie.After-right) → left (ws c) (start c .args .n) < nodes (ws c)
+there-left c = left-node (ws c) (start c .pre .0) (start c .args .n) (start c .pre .1) (eight c)
+
+there-right : (c : tie.After-right) → right (ws c) (start c .args .n) < nodes (ws c)
+there-right c = right-node (ws c) (start c .pre .0) (start c .args .n) (start c .pre .1) (eight c)
+
+-- they have their places in the tables
+low-left : (c : tie.After-right) → c .before .left .result < 256
+low-left c = node-index (ws c) (start c .pre .0) _ (there-left c) (c .before .left .ensures)
+
+low-right : (c : tie.After-right) → c .right .result < 256
+low-right c = node-index (ws c) (start c .pre .0) _ (there-right c) (c .right .ensures)
+
+-- ---- where the right side is open
+
+abbrev inputs : tie.Then2 → tie.After-right
+inputs c = c .before .before .before
+
+open-right : (c : tie.Then2) → closed (shapeAt (widthsOf (ws (inputs c))) (nodesOf (ws (inputs c))) (right (ws (inputs c)) (start (inputs c) .args .n))) ≡ false
+open-right c =
+    let r = inputs c in
+    is-open (ws r) (start r .args .reaches .now) (start r .pre .3) _ (there-right r) (c .before .before .wide .ensures ∙ r .right .ensures) (λ e. omega (arith, e, c .if2 .taken))
+
+-- the set of the keys is there
+abbrev opened : tie.After-key-set → tie.After-right
+opened c = inputs (c .before .before .before .before)
+
+keys : (c : tie.After-key-set)
+    → members (c .key-set .result) ≡ domainKeys outside (widthAt (ws (opened c)) (left (ws (opened c)) (start (opened c) .args .n))) (readsAt (ws (opened c)) (right (ws (opened c)) (start (opened c) .args .n)))
+keys c =
+    let r = opened c in
+    let s = start r in
+    keys-are (ws r) (s .pre .0) (s .args .n) (s .pre .1) (eight r) (s .pre .2) (open-right (c .before .before .before .before)) (s .args .reads .now) (c .key-set .result) _ (c .before .outside .ensures) (s .pre .5) (r .right .ensures) (c .key-set .ensures)
+
+-- where the left side stands
+image : (c : tie.After-key-set)
+    → getD (start (opened c) .args .images .now) (c .before .before .before .wide2 .result) 0 ≡ getD (start (opened c) .args .images .now) (left (ws (opened c)) (start (opened c) .args .n)) 0
+image c = ap (λ (k : ℕ). getD (start (opened c) .args .images .now) k 0) (c .before .before .before .wide2 .ensures ∙ opened c .before .left .ensures)
+
+-- the domain is written
+abbrev keyed : tie.After-struct-known → tie.After-key-set
+keyed c = c .before .before .before .before .before
+
+-- the right side is put under it
+abbrev domained : tie.After-put → tie.After-struct-known
+domained c = c .before .before .before .before .before .before .before
+
+abbrev sides : tie.After-put → tie.After-right
+sides c = opened (keyed (domained c))
+
+-- ---- the needs
+
+operator-requires : tie.Need-operator-requires
+operator-requires c κs = search needs
+
+left-requires : tie.Need-left-requires
+left-requires c κs = search needs
+
+right-requires : tie.Need-right-requires
+right-requires c κs = search needs
+
+wide-requires : tie.Need-wide-requires
+wide-requires c κs = search needs
+
+mul-if2 : tie.Need-mul-if2
+mul-if2 c = search needs
+
+element-copy-out-if2 : tie.Need-element-copy-out-if2
+element-copy-out-if2 c = omega (arith, low-right (c .before), c .wide .ensures)
+
+wide-requires-2 : tie.Need-wide-requires-2
+wide-requires-2 c κs = search needs
+
+mul-i : tie.Need-mul-i
+mul-i c = search needs
+
+element-copy-out-i : tie.Need-element-copy-out-i
+element-copy-out-i c = omega (arith, low-left (inputs (c .before)), c .wide2 .ensures)
+
+outside-requires : tie.Need-outside-requires
+outside-requires c κs = search needs
+
+key-set-requires : tie.Need-key-set-requires
+key-set-requires c κs = (low-right (inputs (c .before .before .before)), c .outside .ensures .narrow)
+
+domain-node-requires : tie.Need-domain-node-requires
+domain-node-requires c κs = search needs
+
+returns : tie.Need-returns
+returns c =
+    let k = keyed (c .before) in
+    let r = opened k in
+    let s = start r in
+    domain-over (ws r) (s .pre .0) (s .args .n) (s .pre .1) (eight r) (s .pre .2) (open-right (k .before .before .before .before)) (s .args .images .now) (members (k .key-set .result)) (keys k) _ (image k)
+    (c .before .before .domain-node .ensures) (not-true _ (c .if3 .taken))
+
+last-requires : tie.Need-last-requires
+last-requires c κs = search needs
+
+inner-requires : tie.Need-inner-requires
+inner-requires c κs = search needs
+
+put-requires : tie.Need-put-requires
+put-requires c κs =
+    let k = keyed (c .before .before .before .before .before .before) in
+    let r = opened k in
+    let s = start r in
+    (s .pre .0, rw (r .right .ensures) (there-right r), inner-sound (c .before .before .before .inner .ensures) (omega (arith, k .key-set .ok)), s .pre .3, s .pre .4, s .pre .5)
+
+wide-requires-3 : tie.Need-wide-requires-3
+wide-requires-3 c κs = search needs
+
+mul-with-inner : tie.Need-mul-with-inner
+mul-with-inner c = record { fits = omega (arith, low-left (sides (c .before)), c .wide3 .ensures) }
+
+element-copy-out-with-inner : tie.Need-element-copy-out-with-inner
+element-copy-out-with-inner c = omega (arith, low-left (sides (c .before)), c .wide3 .ensures)
+
+wide-requires-4 : tie.Need-wide-requires-4
+wide-requires-4 c κs = search needs
+
+mul-with-inner-2 : tie.Need-mul-with-inner-2
+mul-with-inner-2 c = record { fits = omega (arith, low-right (sides (c .before .before .before)), c .wide4 .ensures) }
+
+element-copy-out-with-inner-2 : tie.Need-element-copy-out-with-inner-2
+element-copy-out-with-inner-2 c = omega (arith, low-right (sides (c .before .before .before)), c .wide4 .ensures)
+
+last-requires-2 : tie.Need-last-requires-2
+last-requires-2 c κs = search needs
+
+with-inner-requires : tie.Need-with-inner-requires
+with-inner-requires c κs =
+    let p = c .before .before .before .before .before .before .before .before in
+    let r = sides p in
+    let s = start r in (
+      s .pre .0,
+      s .pre .1,
+      eight r,
+      keyed (domained p) .before .outside .ensures .narrow,
+      width-few (ws r) (s .pre .0) (s .args .widths .now) (s .pre .4) _ (there-left r) (r .before .left .ensures) (c .before .before .before .before .before .before .before .wide3 .ensures),
+      width-few (ws r) (s .pre .0) (s .args .widths .now) (s .pre .4) _ (there-right r) (r .right .ensures) (c .before .before .before .before .before .wide4 .ensures),
+    )
+
+returns-2 : tie.Need-returns-2
+returns-2 c =
+    let p = c .before .before .before .before .before .before .before .before .before in
+    let k = keyed (domained p) in
+    let r = sides p in
+    let s = start r in
+    let d = k .before .outside .ensures in
+    inner-closes (ws r) (s .pre .0) (s .args .n) (s .pre .1) (eight r) (s .pre .2) (open-right (k .before .before .before .before)) (s .args .images .now) (members (k .key-set .result)) (keys k) _ (image k)
+    (domained p .before .domain-node .ensures) (not-false _ (p .before .before .before .before .before .before .if3 .left)) _ (p .before .before .before .before .before .last .ensures)
+    (inner-domain (widthAt (ws r) (left (ws r) (s .args .n))) (readsAt (ws r) (right (ws r) (s .args .n))) (p .before .before .before .before .inner .ensures) d (sym (keys k)) (omega (arith, k .key-set .ok)))
+    _ (r .right .ensures) (p .put .ensures) _ _ _
+    (width-is (ws r) (s .pre .0) (s .args .widths .now) (s .pre .4) _ (there-left r) (r .before .left .ensures) (c .before .before .before .before .before .before .before .before .wide3 .ensures)) (width-is (ws r) (s .pre .0) (s .args .widths .now) (s .pre .4) _ (there-right r) (r .right .ensures) (c .before .before .before .before .before .before .wide4 .ensures))
+    (c .before .before .before .before .last2 .ensures) (c .with-inner .ensures outside d)
+
+copy-node-requires : tie.Need-copy-node-requires
+copy-node-requires c κs = search needs
+
+returns-3 : tie.Need-returns-3
+returns-3 c =
+    let p = c .before .before .before .before .before in
+    let s = p .before .before in
+    copy-closes (s .args .words .now) (s .pre .0) (s .args .n) (s .pre .1)
+    (λ e.
+    ⊎-elim (λ w. is-closed (s .args .words .now) (s .args .reaches .now) (s .pre .3) _ (right-node (s .args .words .now) (s .pre .0) (s .args .n) (s .pre .1) e) (w .3 .ensures ∙ w .2 .ensures) (omega (arith, w .5 .left)))
+    (λ w. absurd (w .left (p .operator .ensures ∙ e))) (c .before .before .before .before .if1 .came))
+    (c .copy-node .ensures)
+
+pub closed-node-spec : {M : Type 1} → statement M
+closed-node-spec =
+    tie.close
+    (tie.spec
+    operator-requires
+    left-requires
+    right-requires
+    wide-requires
+    mul-if2
+    element-copy-out-if2
+    wide-requires-2
+    mul-i
+    element-copy-out-i
+    outside-requires
+    key-set-requires
+    domain-node-requires
+    returns
+    last-requires
+    inner-requires
+    put-requires
+    wide-requires-3
+    mul-with-inner
+    element-copy-out-with-inner
+    wide-requires-4
+    mul-with-inner-2
+    element-copy-out-with-inner-2
+    last-requires-2
+    with-inner-requires
+    returns-2
+    copy-node-requires
+    returns-3)

@@ -1,0 +1,11 @@
+-- The rewriter's answers as document 01 numbers them.
+use Rattle.plan.specs.Answers.{refusalOf}
+use Rattle.rewrite.specs.declared.Rewritten.{Rewritten}
+use Rattle.rewrite.specs.declared.Rewritten.the-variants.{Words, Refused, OverLimits, NoRoom}
+use Rattle.rewrite.specs.Answer.{Outcome}
+
+abbrev pub outcomeOf : Rewritten → Outcome
+outcomeOf (Words n) = record { number = 0; node = 0; count = n }
+outcomeOf (Refused r) = record { number = refusalOf r .number; node = refusalOf r .node; count = 0 }
+outcomeOf OverLimits = record { number = 8; node = 0; count = 0 }
+outcomeOf NoRoom = record { number = 9; node = 0; count = 0 }

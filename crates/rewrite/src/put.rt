@@ -1,0 +1,161 @@
+// A node under a domain: its columns in front of the node's own.
+use crate::domain::Domain;
+use crate::domain::inner;
+use crate::domain::inside;
+use crate::finish::domain_node;
+use crate::finish::over_input;
+use crate::finish::with_copy;
+use crate::finish::with_inner;
+use crate::finish::with_open;
+use crate::page::Cursor;
+use crate::page::Head;
+use crate::page::last;
+use crate::page::push_node;
+use crate::reads::key_set;
+use crate::sets::rank;
+use plan::words::left;
+use plan::words::operator;
+use plan::words::right;
+use plan::words::wide;
+ghost use mathlib.Core.Path.{_≡_};
+ghost use mathlib.Core.Bool.{cond, _&&_};
+ghost use lib.Dec.{eqb};
+ghost use Prim.Native.Nat.{_<_};
+ghost use Rattle.algebra.specs.Columns.{shapeAt, readsLeft};
+ghost use Rattle.algebra.specs.Domains as algebra;
+ghost use Rattle.plan.specs.Words as spec;
+ghost use Rattle.plan.specs.Plan.{widthsOf, nodesOf};
+ghost use Rattle.plan.specs.Verdict.{hasRight};
+ghost use Rattle.plan.specs.Promise.{Accepted};
+ghost use Rattle.plan.specs.Passes.{Reaches, Widths};
+ghost use Rattle.rewrite.specs.Domains.{Means, Sound};
+ghost use Rattle.rewrite.specs.Reads.{ReadsTable};
+ghost use Rattle.rewrite.specs.Under.{Puts};
+
+// The domain that the right side of node n is under, where it is under the same one: past a dependent join one level further in.
+fn right_domain(words: &[u32], n: u32, d: Domain) -> Domain
+    requires { ⌜ Sound d ⌝ }
+    ensures { λ r. ⌜ Sound r × ((D : algebra.Domain) → Means d D → Means r (cond (eqb (spec.operator (now (words .entry)) n) 8) (algebra.inside D) D)) ⌝ }
+{
+    if operator(words, n) == 8 {
+        return inside(d);
+    }
+    d
+}
+
+// Join, groupjoin and dependent join have a right input.
+fn has_right(o: u32) -> bool
+    ensures { λ r. ⌜ r ≡ hasRight o ⌝ }
+{
+    match o {
+        5 | 7 | 8 => true,
+        _ => false,
+    }
+}
+
+// Whether node n is a dependent join whose right side reads its left row.
+fn reads_left(words: &[u32], n: u32, reads: &[u64; 2048]) -> bool
+    requires { ⌜ Accepted (now words) × (n < spec.nodes (now words)) × ReadsTable (now words) (spec.nodes (now words)) (now reads) ⌝ }
+    ensures { λ r. ⌜ r ≡ (eqb (spec.operator (now (words .entry)) n) 8 && readsLeft (shapeAt (widthsOf (now (words .entry))) (nodesOf (now (words .entry))) (spec.right (now (words .entry)) n))) ⌝ }
+{
+    if operator(words, n) != 8 {
+        return false;
+    }
+    rank(reads[8 * wide(right(words, n))], 64) != 0
+}
+
+// Node n under d; what is over a limit stays so.
+pub fn put(
+    words: &[u32],
+    n: u32,
+    d: Domain,
+    reaches: &[u32; 256],
+    widths: &[u32; 256],
+    images: &[u32; 256],
+    reads: &[u64; 2048],
+    nodes: &mut [u32; 1536],
+    items: &mut [u32; 14000],
+    rows: &mut [u32; 256],
+    c: Cursor,
+) -> Cursor
+    requires { ⌜ Accepted (now words) × (n < spec.nodes (now words)) × Sound d × Reaches (now words) (now reaches) × Widths (now words) (now widths) × ReadsTable (now words) (spec.nodes (now words)) (now reads) ⌝ }
+    ensures { λ r. ⌜ Puts (now (words .entry)) (now (images .entry)) n d (now (nodes .entry)) (now (nodes .exit)) (now (items .entry)) (now (items .exit)) (now (rows .entry)) (now (rows .exit)) c r ⌝ }
+{
+    if reaches[wide(n)] == 0 {
+        return push_node(
+            nodes,
+            rows,
+            c,
+            c.items,
+            Head {
+                operator: 5,
+                left: d.node,
+                right: images[wide(n)],
+                kind: 1,
+            },
+            0,
+        );
+    }
+    let l = left(words, n);
+    let x = put(
+        words,
+        l,
+        d,
+        reaches,
+        widths,
+        images,
+        reads,
+        nodes,
+        items,
+        rows,
+        c,
+    );
+    if !x.ok {
+        return x;
+    }
+    let i = last(x);
+    if !has_right(operator(words, n)) {
+        return over_input(words, n, d, i, nodes, items, rows, x);
+    }
+    let r = right(words, n);
+    let wl = widths[wide(l)];
+    let wr = widths[wide(r)];
+    if reads_left(words, n, reads) {
+        let set = key_set(d, reads, r);
+        let g = domain_node(set, i, nodes, items, rows, x);
+        if !g.ok {
+            return g;
+        }
+        let y = put(
+            words,
+            r,
+            inner(d, last(g), set),
+            reaches,
+            widths,
+            images,
+            reads,
+            nodes,
+            items,
+            rows,
+            g,
+        );
+        return with_inner(words, n, d, set, wl, wr, i, last(y), nodes, items, rows, y);
+    }
+    if reaches[wide(r)] == 0 {
+        return with_copy(words, n, d, i, images[wide(r)], nodes, items, rows, x);
+    }
+    let y = put(
+        words,
+        r,
+        right_domain(words, n, d),
+        reaches,
+        widths,
+        images,
+        reads,
+        nodes,
+        items,
+        rows,
+        x,
+    );
+    with_open(words, n, d, wl, wr, i, last(y), nodes, items, rows, y)
+}

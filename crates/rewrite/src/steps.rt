@@ -1,0 +1,221 @@
+// Closed nodes in number order, each with what it needs under its domain.
+use crate::domain::inner;
+use crate::domain::outside;
+use crate::finish::domain_node;
+use crate::finish::with_inner;
+use crate::page::Cursor;
+use crate::page::Head;
+use crate::page::last;
+use crate::page::push_node;
+use crate::put::put;
+use crate::reads::key_set;
+use crate::writer::copied;
+use plan::items::count_tagged;
+use plan::words::first_item;
+use plan::words::item_count;
+use plan::words::kind;
+use plan::words::left;
+use plan::words::nodes as node_count;
+use plan::words::operator;
+use plan::words::right;
+use plan::words::table_width;
+use plan::words::wide;
+ghost use mathlib.Core.Path.{_≡_};
+ghost use mathlib.Core.Bool.{true};
+ghost use mathlib.Core.List.{[], _∷_, _++_};
+ghost use Prim.Native.Nat.{_<_};
+ghost use lib.ListN.{getD};
+ghost use Rattle.algebra.specs.Columns.{closed, shapeAt};
+ghost use Rattle.plan.specs.Words as spec;
+ghost use Rattle.plan.specs.Plan.{nodeAt, widthsOf, nodesOf};
+ghost use Rattle.plan.specs.Promise.{Accepted};
+ghost use Rattle.plan.specs.Passes.{Reaches, Widths};
+ghost use Rattle.rewrite.specs.Answer.{newPlan};
+ghost use Rattle.rewrite.specs.Reads.{ReadsTable};
+ghost use Rattle.rewrite.specs.Pages.{GrowsOver, copyOf, Finished};
+ghost use Rattle.rewrite.specs.Closing.{Closes};
+
+// The image of an input, which is a node before n.
+fn image(images: &[u32; 256], i: u32) -> u32
+    requires { ⌜ i < 256 ⌝ }
+    ensures { λ r. ⌜ r ≡ getD (now (images .entry)) i 0 ⌝ }
+{
+    images[wide(i)]
+}
+
+// A copy of node n with its inputs renumbered; a dependent join becomes the join of its kind.
+fn copy_node(
+    words: &[u32],
+    n: u32,
+    images: &[u32; 256],
+    nodes: &mut [u32; 1536],
+    items: &mut [u32; 14000],
+    rows: &mut [u32; 256],
+    c: Cursor,
+) -> Cursor
+    requires { ⌜ Accepted (now words) × (n < spec.nodes (now words)) ⌝ }
+    ensures { λ r. ⌜ GrowsOver (widthsOf (now (words .entry))) (now (nodes .entry)) (now (nodes .exit)) (now (items .entry)) (now (items .exit)) (now (rows .entry)) (now (rows .exit)) c r (λ out. out ++ (copyOf (λ i. getD (now (images .entry)) i 0) (nodeAt (now (words .entry)) n) ∷ [])) ⌝ }
+{
+    let o = operator(words, n);
+    let l = left(words, n);
+    let a = first_item(words, n);
+    let count = item_count(words, n);
+    let first = c.items;
+    let c = copied(words, items, c, a, count);
+    match o {
+        1 => push_node(
+            nodes,
+            rows,
+            c,
+            first,
+            Head {
+                operator: 1,
+                left: l,
+                right: 0,
+                kind: 0,
+            },
+            table_width(words, l),
+        ),
+        5 | 8 => push_node(
+            nodes,
+            rows,
+            c,
+            first,
+            Head {
+                operator: 5,
+                left: image(images, l),
+                right: image(images, right(words, n)),
+                kind: kind(words, n),
+            },
+            0,
+        ),
+        7 => push_node(
+            nodes,
+            rows,
+            c,
+            first,
+            Head {
+                operator: 7,
+                left: image(images, l),
+                right: image(images, right(words, n)),
+                kind: 0,
+            },
+            count_tagged(words, a, count, 13, 16),
+        ),
+        _ => push_node(
+            nodes,
+            rows,
+            c,
+            first,
+            Head {
+                operator: o,
+                left: image(images, l),
+                right: 0,
+                kind: 0,
+            },
+            0,
+        ),
+    }
+}
+
+// A closed node; what is over a limit stays so.
+fn closed_node(
+    words: &[u32],
+    n: u32,
+    reaches: &[u32; 256],
+    widths: &[u32; 256],
+    images: &[u32; 256],
+    reads: &[u64; 2048],
+    nodes: &mut [u32; 1536],
+    items: &mut [u32; 14000],
+    rows: &mut [u32; 256],
+    c: Cursor,
+) -> Cursor
+    requires { ⌜ Accepted (now words) × (n < spec.nodes (now words)) × (closed (shapeAt (widthsOf (now words)) (nodesOf (now words)) n) ≡ true) × Reaches (now words) (now reaches) × Widths (now words) (now widths) × ReadsTable (now words) (spec.nodes (now words)) (now reads) ⌝ }
+    ensures { λ r. ⌜ Closes (now (words .entry)) (now (images .entry)) n (now (nodes .entry)) (now (nodes .exit)) (now (items .entry)) (now (items .exit)) (now (rows .entry)) (now (rows .exit)) c r ⌝ }
+{
+    let o = operator(words, n);
+    if o == 8 {
+        let l = left(words, n);
+        let r = right(words, n);
+        if 0 < reaches[wide(r)] {
+            let i = images[wide(l)];
+            let d = outside();
+            let set = key_set(d, reads, r);
+            let g = domain_node(set, i, nodes, items, rows, c);
+            if !g.ok {
+                return g;
+            }
+            let y = put(
+                words,
+                r,
+                inner(d, last(g), set),
+                reaches,
+                widths,
+                images,
+                reads,
+                nodes,
+                items,
+                rows,
+                g,
+            );
+            return with_inner(
+                words,
+                n,
+                d,
+                set,
+                widths[wide(l)],
+                widths[wide(r)],
+                i,
+                last(y),
+                nodes,
+                items,
+                rows,
+                y,
+            );
+        }
+    }
+    copy_node(words, n, images, nodes, items, rows, c)
+}
+
+// All nodes: what is written then is the plan that the rules give.
+pub fn rewrite_nodes(
+    words: &[u32],
+    reaches: &[u32; 256],
+    widths: &[u32; 256],
+    reads: &[u64; 2048],
+    nodes: &mut [u32; 1536],
+    items: &mut [u32; 14000],
+) -> Cursor
+    requires { ⌜ Accepted (now words) × Reaches (now words) (now reaches) × Widths (now words) (now widths) × ReadsTable (now words) (spec.nodes (now words)) (now reads) ⌝ }
+    ensures { λ r. ⌜ Finished (widthsOf (now (words .entry))) (newPlan (now (words .entry))) (now (nodes .exit)) (now (items .exit)) r ⌝ }
+{
+    let mut rows = [0u32; 256];
+    let mut images = [0u32; 256];
+    let mut c = Cursor {
+        nodes: 0,
+        items: 0,
+        ok: true,
+    };
+    let count = node_count(words);
+    let mut n = 0;
+    while n < count {
+        if reaches[wide(n)] == 0 {
+            c = closed_node(
+                words,
+                n,
+                reaches,
+                widths,
+                &images,
+                reads,
+                nodes,
+                items,
+                &mut rows,
+                c,
+            );
+            images[wide(n)] = last(c);
+        }
+        n += 1;
+    }
+    c
+}
