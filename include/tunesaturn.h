@@ -1,4 +1,4 @@
-/* Tunesaturn: checking plan tables.
+/* Tunesaturn: checking and rewriting plan tables.
  *
  * A slice of words is passed as a pointer and a length. A pointer may be null
  * only where its length is 0. No function keeps a pointer, allocates, or
@@ -31,6 +31,18 @@ typedef struct {
  *   7  a column that does not exist
  * The words are only read. */
 tunesaturn_answer tunesaturn_check(const uint32_t *words, size_t length);
+
+/* Rewrites a plan table to one without dependent joins, which gives the same
+ * rows for every database. It answers 0, 0 and the number of words written,
+ * or a refusal of the check, or
+ *   8  the rewriting has over 256 nodes, over 2,000 items or a row over 64
+ *   9  out is shorter than the rewritten plan
+ * Where it is accepted, the new words stand at the front of out and the rest
+ * of out is as it was; 15,560 words are always enough. Where it is refused,
+ * all of out is as it was. The words are only read; they and out may not
+ * overlap. */
+tunesaturn_answer tunesaturn_rewrite(const uint32_t *words, size_t length,
+                                     uint32_t *out, size_t room);
 
 #ifdef __cplusplus
 }

@@ -1,4 +1,4 @@
-/* Calls the C interface on plan S, on S with a damaged header, and on no words at all. */
+/* Calls the C interface on plan S, on damaged words, on no words at all, and with too little room. */
 #include <stdio.h>
 #include "tunesaturn.h"
 
@@ -25,6 +25,15 @@ int main(void) {
     expect("one word short", tunesaturn_check(S, 66), 1, 0, 0);
     expect("operator 9", tunesaturn_check(damaged, 67), 3, 4, 0);
     expect("no words", tunesaturn_check(NULL, 0), 1, 0, 0);
+    uint32_t out[130];
+    for (int i = 0; i < 130; i++) out[i] = 7;
+    expect("S in 119 words", tunesaturn_rewrite(S, 67, out, 119), 9, 0, 0);
+    expect("a damaged plan", tunesaturn_rewrite(damaged, 67, out, 130), 3, 4, 0);
+    for (int i = 0; i < 130; i++) if (out[i] != 7) { printf("a refused call changed out\n"); wrong = 1; }
+    expect("S rewritten", tunesaturn_rewrite(S, 67, out, 130), 0, 0, 120);
+    if (out[0] != 120 || out[3] != 9 || out[5] != 8) { printf("S: a wrong header\n"); wrong = 1; }
+    for (int i = 120; i < 130; i++) if (out[i] != 7) { printf("the rest of out is changed\n"); wrong = 1; }
+    expect("the rewriting", tunesaturn_check(out, 120), 0, 0, 0);
     if (!wrong) printf("the C interface answers as it should\n");
     return wrong;
 }

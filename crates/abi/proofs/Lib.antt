@@ -1,2 +1,3 @@
 -- What the answers of the C interface say.
 pub mod Says
+pub mod Gives

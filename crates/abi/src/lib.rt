@@ -1,9 +1,13 @@
 // The C interface: each function answers a number of refusal, its node, and a count.
 use plan::Verdict;
 use plan::check;
+use rewrite::Rewritten;
+use rewrite::rewrite;
 ghost use mathlib.Core.Path.{_≡_};
 ghost use Rattle.plan.specs.Verdict.{verdict};
-ghost use Rattle.abi.specs.Answers.{Says};
+ghost use lib.ListN.{length};
+ghost use Rattle.rewrite.specs.Answer.{rewriting, outputAfter};
+ghost use Rattle.abi.specs.Answers.{Says, Gives};
 
 #[repr(C)]
 pub struct Answer {
@@ -31,5 +35,30 @@ pub extern "C" fn tunesaturn_check(words: &[u32]) -> Answer
     match v {
         Verdict::Accepted => numbered(0, 0),
         Verdict::Refused(r) => numbered(r.number(), r.node()),
+    }
+}
+
+fn wide(x: u32) -> u64
+    ensures { λ r. ⌜ r ≡ x ⌝ }
+{
+    x as u64
+}
+
+// The rewriting of a plan table to the front of out; count is the number of words.
+#[no_mangle]
+pub extern "C" fn tunesaturn_rewrite(words: &[u32], out: &mut [u32]) -> Answer
+    ensures { λ a. ⌜ Gives a (rewriting (now (words .entry)) (length (now (out .entry)))) ⌝ }
+    ensures { λ _. ⌜ now (out .exit) ≡ outputAfter (now (words .entry)) (now (out .entry)) ⌝ }
+{
+    let answer = rewrite(words, out);
+    match answer {
+        Rewritten::Words(n) => Answer {
+            number: 0,
+            node: 0,
+            count: wide(n),
+        },
+        Rewritten::Refused(r) => numbered(r.number(), r.node()),
+        Rewritten::OverLimits => numbered(8, 0),
+        Rewritten::NoRoom => numbered(9, 0),
     }
 }

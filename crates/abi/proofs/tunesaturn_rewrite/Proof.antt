@@ -1,0 +1,94 @@
+use mathlib.Core.Path.{refl}
+use Rattle.abi.proofs.Gives.{gives-words, gives-refused, gives-over, gives-short}
+use borrow.Author.Needs.{needs}
+use Rattle.abi.proofs.tunesaturn_rewrite.Statement.{statement}
+use Rattle.abi.proofs.tunesaturn_rewrite.Tie as tie
+
+rewrite-requires : tie.Need-rewrite-requires
+rewrite-requires c κs = search needs
+
+enum-known-answer : tie.Need-enum-known-answer
+enum-known-answer c = search needs
+
+wide-requires : tie.Need-wide-requires
+wide-requires c κs = search needs
+
+enum-known-answer-2 : tie.Need-enum-known-answer-2
+enum-known-answer-2 c = search needs
+
+number-requires : tie.Need-number-requires
+number-requires c κs = search needs
+
+node-requires : tie.Need-node-requires
+node-requires c κs = search needs
+
+numbered-requires : tie.Need-numbered-requires
+numbered-requires c κs = search needs
+
+enum-told : tie.Need-enum-told
+enum-told c = search needs
+
+numbered-requires-2 : tie.Need-numbered-requires-2
+numbered-requires-2 c κs = search needs
+
+enum-told-2 : tie.Need-enum-told-2
+enum-told-2 c = search needs
+
+numbered-requires-3 : tie.Need-numbered-requires-3
+numbered-requires-3 c κs = search needs
+
+same-length : tie.Need-same-length
+same-length c = search needs
+
+returns : tie.Need-returns
+returns c =
+    let w = c .before .before .before .before .before .before .rewrite in
+    (gives-words _ _ _ (w .ensures .0) _ (c .before .before .answer .given .1) refl refl (c .wide .ensures), w .ensures .1)
+
+same-length-2 : tie.Need-same-length-2
+same-length-2 c = search needs
+
+returns-2 : tie.Need-returns-2
+returns-2 c =
+    let w = c .before .before .before .before .before .before .before .before .rewrite in
+    (gives-refused _ _ _ (w .ensures .0) _ (c .before .before .before .before .answer2 .given .1) _ _ (c .before .before .number .ensures) (c .before .node .ensures) (c .numbered .ensures), w .ensures .1)
+
+same-length-3 : tie.Need-same-length-3
+same-length-3 c = search needs
+
+returns-3 : tie.Need-returns-3
+returns-3 c =
+    let w = c .before .before .before .before .before .rewrite in
+    (gives-over _ _ _ (w .ensures .0) (c .before .enum-told .given .1) (c .numbered2 .ensures), w .ensures .1)
+
+same-length-4 : tie.Need-same-length-4
+same-length-4 c = search needs
+
+returns-4 : tie.Need-returns-4
+returns-4 c =
+    let w = c .before .before .before .before .before .rewrite in
+    (gives-short _ _ _ (w .ensures .0) (c .before .enum-told2 .given .1) (c .numbered3 .ensures), w .ensures .1)
+
+pub tunesaturn-rewrite-spec : {M : Type 1} → statement M
+tunesaturn-rewrite-spec =
+    tie.close
+    (tie.spec
+    rewrite-requires
+    enum-known-answer
+    wide-requires
+    enum-known-answer-2
+    number-requires
+    node-requires
+    numbered-requires
+    enum-told
+    numbered-requires-2
+    enum-told-2
+    numbered-requires-3
+    same-length
+    returns
+    same-length-2
+    returns-2
+    same-length-3
+    returns-3
+    same-length-4
+    returns-4)

@@ -1,0 +1,2 @@
+-- What the listing knows of a plan that the check accepted.
+pub mod Accepted
