@@ -1,8 +1,25 @@
-/* Tunesaturn: checking and rewriting plan tables.
+/* Tunesaturn: checking, rewriting and evaluating plan tables.
  *
- * A slice of words is passed as a pointer and a length. A pointer may be null
- * only where its length is 0. No function keeps a pointer, allocates, or
- * writes to anything but the buffers named as written.
+ * A slice is passed as a pointer and a length. A pointer may be null only where
+ * its length is 0. No function keeps a pointer, allocates, or writes to anything
+ * but the buffers named as written. Buffers that are written overlap no other.
+ *
+ * A plan table is a slice of words: a header of 8 words (total words, tables T,
+ * 8, nodes N, 8+T, items I, 8+T+6N, 0), the T table widths, the N nodes of 6
+ * words (operator, left, right, kind, first item, item count) and the I items of
+ * 7 words (tag, two terms of 3 words). Inputs are lower node numbers; the last
+ * node is the root. examples/scrub_list.c has a whole one.
+ *   operators  1 scan (left: table)  2 select  3 map  4 project  5 join  6 group
+ *              7 groupjoin  8 dependent join
+ *   kinds      of 5 and 8: 1 inner  2 semi  3 anti  4 left outer
+ *   tags       1 =  2 not =  3 <  4 <=  5 >  6 >=  7 not distinct (conjuncts)
+ *              8 copy  9 add  10 subtract  11 key  12 output column
+ *              13 count  14 sum  15 min  16 max
+ *   terms      0,0,position: a column of the input's row (for conjuncts of 5, 7
+ *              and 8 of the left row, then the right; for aggregates of 7 of the
+ *              right row); 1,level,position: a column of the left row of the
+ *              dependent join that many levels outward; 2,0,constant (32 bits,
+ *              signed); 3,0,0: null; 0,0,0 where a term is unused
  */
 #ifndef TUNESATURN_H
 #define TUNESATURN_H
@@ -14,8 +31,14 @@
 extern "C" {
 #endif
 
+/* The cell of a null. Every other cell lies within 2^47-1 of zero. */
+#define TUNESATURN_NULL INT64_MIN
+
+/* No plan table that is accepted has more words. */
+#define TUNESATURN_LONGEST 15560
+
 /* number: 0 where the call is accepted, else the number of the refusal;
- * node:   the node that a refusal 3 to 7 names, else 0;
+ * node:   the node that a refusal 3 to 7, 14 or 15 names, else 0;
  * count:  what the function says of it, 0 for a refusal. */
 typedef struct {
     uint32_t number;
@@ -38,11 +61,32 @@ tunesaturn_answer tunesaturn_check(const uint32_t *words, size_t length);
  *   8  the rewriting has over 256 nodes, over 2,000 items or a row over 64
  *   9  out is shorter than the rewritten plan
  * Where it is accepted, the new words stand at the front of out and the rest
- * of out is as it was; 15,560 words are always enough. Where it is refused,
- * all of out is as it was. The words are only read; they and out may not
- * overlap. */
+ * of out is as it was; TUNESATURN_LONGEST words are always enough. Where it is
+ * refused, all of out is as it was. The words are only read. */
 tunesaturn_answer tunesaturn_rewrite(const uint32_t *words, size_t length,
                                      uint32_t *out, size_t room);
+
+/* Works a plan table out over a database: counts has the number of rows of each
+ * table, cells the tables one after the other, by rows; limit is the most rows
+ * that a node may have, 1 to 4,096. It answers 0, 0 and the number of rows, or a
+ * refusal of the check, or
+ *   10  not a row count of 0 to 4,096 for each table, not as many cells, or a
+ *       cell out of range
+ *   11  limit is not 1 to 4,096
+ *   12  scratch has fewer than nodes * limit * (the widest row of a node) cells
+ *   13  out has fewer than limit * (the root's width) cells
+ *   14  a node has more than limit rows
+ *   15  a number of a row is not within 2^47-1 of zero
+ * Where it is accepted, the root's rows stand one after the other at the front of
+ * out and the rest of out is as it was; where it is refused, all of out is as it
+ * was. Refused with 1 to 13 it leaves scratch as it was, otherwise every cell of
+ * scratch is 0. Words, counts and cells are only read. */
+tunesaturn_answer tunesaturn_evaluate(const uint32_t *words, size_t length,
+                                      const uint32_t *counts, size_t tables,
+                                      const int64_t *cells, size_t cell_count,
+                                      uint32_t limit,
+                                      int64_t *scratch, size_t scratch_room,
+                                      int64_t *out, size_t room);
 
 #ifdef __cplusplus
 }

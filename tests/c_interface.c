@@ -1,4 +1,4 @@
-/* Calls the C interface on plan S, on damaged words, on no words at all, and with too little room. */
+/* Calls the C interface on plan S, on damaged words, on no words at all, and with too little room; reads every cell that it lends. */
 #include <stdio.h>
 #include "tunesaturn.h"
 
@@ -15,6 +15,14 @@ static void expect(const char *name, tunesaturn_answer got, uint32_t number, uin
         printf("%s: %u %u %llu\n", name, got.number, got.node, (unsigned long long)got.count);
         wrong = 1;
     }
+}
+
+static void fill(int64_t *cells, int count) {
+    for (int i = 0; i < count; i++) cells[i] = 7;
+}
+
+static void all_are(const char *name, const int64_t *cells, int from, int to, int64_t cell) {
+    for (int i = from; i < to; i++) if (cells[i] != cell) { printf("%s: cell %d\n", name, i); wrong = 1; }
 }
 
 int main(void) {
@@ -34,6 +42,25 @@ int main(void) {
     if (out[0] != 120 || out[3] != 9 || out[5] != 8) { printf("S: a wrong header\n"); wrong = 1; }
     for (int i = 120; i < 130; i++) if (out[i] != 7) { printf("the rest of out is changed\n"); wrong = 1; }
     expect("the rewriting", tunesaturn_check(out, 120), 0, 0, 0);
+    const uint32_t counts[2] = {3, 3};
+    const int64_t cells[6] = {1, 2, 3, 1, 1, 2};
+    int64_t scratch[36 + 4], rows[6 + 4];
+    fill(scratch, 40);
+    fill(rows, 10);
+    expect("no words to evaluate", tunesaturn_evaluate(NULL, 0, NULL, 0, NULL, 0, 3, NULL, 0, NULL, 0), 1, 0, 0);
+    expect("a cell too few", tunesaturn_evaluate(S, 67, counts, 2, cells, 5, 3, scratch, 40, rows, 10), 10, 0, 0);
+    expect("limit 0", tunesaturn_evaluate(S, 67, counts, 2, cells, 6, 0, scratch, 40, rows, 10), 11, 0, 0);
+    expect("scratch a cell short", tunesaturn_evaluate(S, 67, counts, 2, cells, 6, 3, scratch, 35, rows, 10), 12, 0, 0);
+    expect("output a cell short", tunesaturn_evaluate(S, 67, counts, 2, cells, 6, 3, scratch, 40, rows, 5), 13, 0, 0);
+    all_are("scratch up to refusal 13", scratch, 0, 40, 7);
+    expect("a scan over the limit", tunesaturn_evaluate(S, 67, counts, 2, cells, 6, 2, scratch, 40, rows, 10), 14, 0, 0);
+    all_are("scratch after refusal 14", scratch, 0, 40, 0);
+    all_are("the output of refused calls", rows, 0, 10, 7);
+    fill(scratch, 40);
+    expect("S evaluated", tunesaturn_evaluate(S, 67, counts, 2, cells, 6, 3, scratch, 40, rows, 10), 0, 0, 2);
+    if (rows[0] != 2 || rows[1] != 1 || rows[2] != 3 || rows[3] != 0) { printf("S: wrong rows\n"); wrong = 1; }
+    all_are("the rest of the output", rows, 4, 10, 7);
+    all_are("scratch", scratch, 0, 40, 0);
     if (!wrong) printf("the C interface answers as it should\n");
     return wrong;
 }

@@ -1,25 +1,15 @@
--- An answer gives what the rewriter answered.
+-- An answer gives what a call's outcome has.
 use mathlib.Core.Path.{_≡_, sym, _∙_}
 use Prim.Native.Nat.{ℕ}
-use Rattle.plan.specs.declared.Refusal.{Refusal}
-use Rattle.plan.specs.Answers.{refusalOf}
-use Rattle.rewrite.specs.declared.Rewritten.{Rewritten}
-use Rattle.rewrite.specs.declared.Rewritten.the-variants.{Words, Refused, OverLimits, NoRoom}
-use Rattle.rewrite.specs.Answer.{Outcome}
-use Rattle.rewrite.specs.Outcomes.{outcomeOf}
+use Rattle.plan.specs.Verdict.{Outcome}
 use Rattle.abi.specs.declared.Answer.{Answer}
 use Rattle.abi.specs.Answers.{Gives}
 
-module _ (a : Answer) (r : Rewritten) (o : Outcome) (q : outcomeOf r ≡ o) where
-  pub gives-words : (n : ℕ) → r ≡ Words n → a .number ≡ 0 → a .node ≡ 0 → a .count ≡ n → Gives a o
-  gives-words n e f g h = rw (sym q, e) (record { number = f; node = g; total = h })
+module _ {R : Type 0} (outcome : R → Outcome) (a : Answer) (r x : R) (o : Outcome) (q : outcome r ≡ o) (e : r ≡ x) where
+  pub gives : (a .number ≡ outcome x .number) × (a .node ≡ outcome x .node) × (a .count ≡ outcome x .count) → Gives a o
+  gives h = rw (sym q, e) (record { number = h .0; node = h .1; total = h .2 })
 
-  pub gives-refused : (x : Refusal) → r ≡ Refused x → (number node : ℕ) → number ≡ refusalOf x .number → node ≡ refusalOf x .node
+  -- number and node came from a refusal of the check
+  pub gives-refused : (number node : ℕ) → number ≡ outcome x .number → node ≡ outcome x .node → outcome x .count ≡ 0
       → (a .number ≡ number) × (a .node ≡ node) × (a .count ≡ 0) → Gives a o
-  gives-refused x e number node f g h = rw (sym q, e) (record { number = h .0 ∙ f; node = h .1 ∙ g; total = h .2 })
-
-  pub gives-over : r ≡ OverLimits → (a .number ≡ 8) × (a .node ≡ 0) × (a .count ≡ 0) → Gives a o
-  gives-over e h = rw (sym q, e) (record { number = h .0; node = h .1; total = h .2 })
-
-  pub gives-short : r ≡ NoRoom → (a .number ≡ 9) × (a .node ≡ 0) × (a .count ≡ 0) → Gives a o
-  gives-short e h = rw (sym q, e) (record { number = h .0; node = h .1; total = h .2 })
+  gives-refused number node f g z h = gives (h .0 ∙ f, h .1 ∙ g, h .2 ∙ sym z)

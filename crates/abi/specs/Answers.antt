@@ -2,7 +2,6 @@
 use mathlib.Core.Path.{_≡_}
 use Prim.Native.Nat.{ℕ}
 use Rattle.plan.specs.Verdict as plan
-use Rattle.rewrite.specs.Answer.{Outcome}
 use Rattle.abi.specs.declared.Answer.{Answer}
 
 -- number and node of a refusal, 0 and 0 for acceptance, and a count
@@ -12,7 +11,7 @@ pub record Says (a : Answer) (refusal : plan.Answer) (count : ℕ) : Type 0 wher
   pub total : a .count ≡ count
 
 -- number, node and count of an outcome
-pub record Gives (a : Answer) (o : Outcome) : Type 0 where
+pub record Gives (a : Answer) (o : plan.Outcome) : Type 0 where
   pub number : a .number ≡ o .number
   pub node : a .node ≡ o .node
   pub total : a .count ≡ o .count

@@ -1,4 +1,6 @@
 // The C interface: each function answers a number of refusal, its node, and a count.
+use evaluate::Evaluated;
+use evaluate::evaluate;
 use plan::Verdict;
 use plan::check;
 use rewrite::Rewritten;
@@ -7,6 +9,7 @@ ghost use mathlib.Core.Path.{_≡_};
 ghost use Rattle.plan.specs.Verdict.{verdict};
 ghost use lib.ListN.{length};
 ghost use Rattle.rewrite.specs.Answer.{rewriting, outputAfter};
+ghost use Rattle.evaluate.specs.Answer as evaluation;
 ghost use Rattle.abi.specs.Answers.{Says, Gives};
 
 #[repr(C)]
@@ -60,5 +63,36 @@ pub extern "C" fn tunesaturn_rewrite(words: &[u32], out: &mut [u32]) -> Answer
         Rewritten::Refused(r) => numbered(r.number(), r.node()),
         Rewritten::OverLimits => numbered(8, 0),
         Rewritten::NoRoom => numbered(9, 0),
+    }
+}
+
+// The rows of a plan over lent cells to the front of out; count is the number of rows.
+#[no_mangle]
+pub extern "C" fn tunesaturn_evaluate(
+    words: &[u32],
+    counts: &[u32],
+    cells: &[i64],
+    limit: u32,
+    scratch: &mut [i64],
+    out: &mut [i64],
+) -> Answer
+    ensures { λ a. ⌜ Gives a (evaluation.evaluation (now (words .entry)) (now (counts .entry)) (now (cells .entry)) limit (length (now (scratch .entry))) (length (now (out .entry)))) ⌝ }
+    ensures { λ _. ⌜ now (out .exit) ≡ evaluation.outputAfter (now (words .entry)) (now (counts .entry)) (now (cells .entry)) limit (length (now (scratch .entry))) (now (out .entry)) ⌝ }
+    ensures { λ _. ⌜ now (scratch .exit) ≡ evaluation.scratchAfter (now (words .entry)) (now (counts .entry)) (now (cells .entry)) limit (now (scratch .entry)) (length (now (out .entry))) ⌝ }
+{
+    let answer = evaluate(words, counts, cells, limit, scratch, out);
+    match answer {
+        Evaluated::Rows(n) => Answer {
+            number: 0,
+            node: 0,
+            count: wide(n),
+        },
+        Evaluated::Refused(r) => numbered(r.number(), r.node()),
+        Evaluated::Database => numbered(10, 0),
+        Evaluated::Limit => numbered(11, 0),
+        Evaluated::Scratch => numbered(12, 0),
+        Evaluated::Output => numbered(13, 0),
+        Evaluated::TooMany(n) => numbered(14, n),
+        Evaluated::OutOfRange(n) => numbered(15, n),
     }
 }

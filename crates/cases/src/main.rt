@@ -2,44 +2,14 @@
 // A record is a name and a plan's words, each a byte count and that many bytes; counts and words have their least byte first.
 use libc::STDOUT_FILENO;
 use plan::Verdict;
-ghost use Prim.Native.Nat.{_≤_};
-ghost use Rattle.io.specs.Counts.{Counts};
-
-// At most so many records are read, so that every input ends.
-const RECORDS: u32 = 1000;
-
-fn wide(x: u32) -> usize {
-    x as usize
-}
-
-fn least(a: usize, b: usize) -> usize
-    ensures { λ r. ⌜ (r ≤ a) × (r ≤ b) ⌝ }
-{
-    if a < b { a } else { b }
-}
-
-// The byte count in front of a part of a record, 0 where the input ends.
-fn read_count() -> usize {
-    let mut bytes = [0u8; 4];
-    io::read_full(0, &mut bytes);
-    let mut count = [0u32; 1];
-    input::words(&bytes, &mut count);
-    wide(count[0])
-}
-
-// Reads a part of a record to the front of room, and answers how many bytes came.
-fn read_part(room: &mut [u8]) -> usize
-    ensures { λ r. ⌜ Counts r (now (room .exit)) ⌝ }
-{
-    let count = least(read_count(), room.len());
-    io::read_full(0, &mut room[..count])
-}
+use records::RECORDS;
+use records::print_next;
+use records::read_part;
 
 fn print_answer(number: u32, node: u32) {
-    io::write_all(STDOUT_FILENO, b": ");
-    io::print_decimal(STDOUT_FILENO, number as u64);
-    io::write_all(STDOUT_FILENO, b" ");
-    io::print_decimal(STDOUT_FILENO, node as u64);
+    io::write_all(STDOUT_FILENO, b":");
+    print_next(number);
+    print_next(node);
     io::write_all(STDOUT_FILENO, b"\n");
 }
 

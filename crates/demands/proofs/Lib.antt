@@ -1,2 +1,3 @@
 -- The proofs of the demands.
 pub mod Rewriting
+pub mod Evaluation

@@ -1,2 +1,3 @@
 -- The demands of the mission, over words.
 pub mod Rewriting
+pub mod Evaluation

@@ -17,6 +17,12 @@ pub record Answer : Type 0 where
   pub number : ℕ
   pub node : ℕ
 
+-- the same with a count: "returns their number"
+pub record Outcome : Type 0 where
+  pub number : ℕ
+  pub node : ℕ
+  pub count : ℕ
+
 -- the lowest number below n that passes, n where there is none
 abbrev pub lowest : (ℕ → Bool) → ℕ → ℕ
 lowest p n = getD (keep p (upto n)) 0 n

@@ -1,9 +1,9 @@
 // Refusal 7: a column that doesn't exist, local or outer.
-use crate::malformed::has_right;
 use crate::terms::Term;
 use crate::terms::first_term;
 use crate::terms::second_term;
 use crate::words::first_item;
+use crate::words::has_right;
 use crate::words::item_count;
 use crate::words::left;
 use crate::words::nodes;

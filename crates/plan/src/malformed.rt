@@ -1,6 +1,7 @@
 // Refusal 3: a node or its items malformed.
 use crate::items::node_items_right;
 use crate::words::first_item;
+use crate::words::has_right;
 use crate::words::item_count;
 use crate::words::items;
 use crate::words::kind;
@@ -14,18 +15,8 @@ ghost use mathlib.Core.Path.{_≡_};
 ghost use mathlib.Core.Bool.{not};
 ghost use Prim.Native.Nat.{_+_, _≤_, _<_};
 ghost use Rattle.plan.specs.Words as spec;
-ghost use Rattle.plan.specs.Verdict.{lowest, hasRight, hasKind, itemsBefore, inputsRight, kindRight, countRight, nodeRight};
+ghost use Rattle.plan.specs.Verdict.{lowest, hasKind, itemsBefore, inputsRight, kindRight, countRight, nodeRight};
 ghost use Rattle.plan.specs.Promise.{Sized};
-
-// Join, groupjoin and dependent join have a right input.
-pub fn has_right(o: u32) -> bool
-    ensures { λ r. ⌜ r ≡ hasRight o ⌝ }
-{
-    match o {
-        5 | 7 | 8 => true,
-        _ => false,
-    }
-}
 
 fn inputs_right(words: &[u32], n: u32) -> bool
     ensures { λ r. ⌜ r ≡ inputsRight (now (words .entry)) n ⌝ }

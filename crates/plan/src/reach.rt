@@ -1,6 +1,6 @@
 // Refusal 6: an open node used more than once. A node is open where something in it or below it reaches beyond it.
-use crate::malformed::has_right;
 use crate::words::first_item;
+use crate::words::has_right;
 use crate::words::item_count;
 use crate::words::item_word;
 use crate::words::left;

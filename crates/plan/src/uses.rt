@@ -1,5 +1,5 @@
 // Refusal 4: a node other than the root unused.
-use crate::malformed::has_right;
+use crate::words::has_right;
 use crate::words::left;
 use crate::words::nodes;
 use crate::words::operator;

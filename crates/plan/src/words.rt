@@ -1,6 +1,7 @@
 // Each word of a plan table by its name: the only place that knows where words stand.
 ghost use mathlib.Core.Path.{_≡_};
 ghost use Rattle.plan.specs.Words as spec;
+ghost use Rattle.plan.specs.Verdict.{hasRight};
 
 pub fn wide(x: u32) -> usize
     ensures { λ r. ⌜ r ≡ x ⌝ }
@@ -103,4 +104,14 @@ pub fn position(words: &[u32], j: u32) -> u32
     ensures { λ r. ⌜ r ≡ spec.itemWord (now (words .entry)) j 3 ⌝ }
 {
     item_word(words, j, 3)
+}
+
+// Join, groupjoin and dependent join have a right input.
+pub fn has_right(o: u32) -> bool
+    ensures { λ r. ⌜ r ≡ hasRight o ⌝ }
+{
+    match o {
+        5 | 7 | 8 => true,
+        _ => false,
+    }
 }

@@ -5,7 +5,7 @@ use lib.Dec.{eqb}
 use Rattle.plan.specs.declared.Refusal.the-variants.{Header, Limits, Malformed, Unused, TooWide, OpenTwice, NoColumn}
 use Rattle.rewrite.specs.declared.Rewritten.{Rewritten}
 use Rattle.rewrite.specs.declared.Rewritten.the-variants.{Words, Refused, OverLimits, NoRoom}
-use Rattle.rewrite.specs.Answer.{Outcome}
+use Rattle.plan.specs.Verdict.{Outcome}
 use Rattle.rewrite.specs.Outcomes.{outcomeOf}
 
 -- the answer that a number, a node and a count name

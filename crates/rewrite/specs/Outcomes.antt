@@ -1,8 +1,8 @@
 -- The rewriter's answers as document 01 numbers them.
+use Rattle.plan.specs.Verdict.{Outcome}
 use Rattle.plan.specs.Answers.{refusalOf}
 use Rattle.rewrite.specs.declared.Rewritten.{Rewritten}
 use Rattle.rewrite.specs.declared.Rewritten.the-variants.{Words, Refused, OverLimits, NoRoom}
-use Rattle.rewrite.specs.Answer.{Outcome}
 
 abbrev pub outcomeOf : Rewritten → Outcome
 outcomeOf (Words n) = record { number = 0; node = 0; count = n }

@@ -13,6 +13,7 @@ use crate::page::last;
 use crate::page::push_node;
 use crate::reads::key_set;
 use crate::sets::rank;
+use plan::words::has_right;
 use plan::words::left;
 use plan::words::operator;
 use plan::words::right;
@@ -25,7 +26,6 @@ ghost use Rattle.algebra.specs.Columns.{shapeAt, readsLeft};
 ghost use Rattle.algebra.specs.Domains as algebra;
 ghost use Rattle.plan.specs.Words as spec;
 ghost use Rattle.plan.specs.Plan.{widthsOf, nodesOf};
-ghost use Rattle.plan.specs.Verdict.{hasRight};
 ghost use Rattle.plan.specs.Promise.{Accepted};
 ghost use Rattle.plan.specs.Passes.{Reaches, Widths};
 ghost use Rattle.rewrite.specs.Domains.{Means, Sound};
@@ -41,16 +41,6 @@ fn right_domain(words: &[u32], n: u32, d: Domain) -> Domain
         return inside(d);
     }
     d
-}
-
-// Join, groupjoin and dependent join have a right input.
-fn has_right(o: u32) -> bool
-    ensures { λ r. ⌜ r ≡ hasRight o ⌝ }
-{
-    match o {
-        5 | 7 | 8 => true,
-        _ => false,
-    }
 }
 
 // Whether node n is a dependent join whose right side reads its left row.

@@ -3,49 +3,19 @@
 // A record is a name, the words of room in the output, and a plan's words; the name and the plan are each a byte count and that many bytes.
 // Numbers have their least byte first.
 use libc::STDOUT_FILENO;
+use records::RECORDS;
+use records::least;
+use records::print_next;
+use records::read_number;
+use records::read_part;
+use records::wide;
 use rewrite::Rewritten;
 use rewrite::rewrite;
 ghost use Prim.Native.Nat.{_≤_};
 ghost use lib.ListN.{length};
-ghost use Rattle.io.specs.Counts.{Counts};
-
-// At most so many records are read, so that every input ends.
-const RECORDS: u32 = 1000;
 
 // What every word of an output is before a rewriting.
 const LENT: u32 = 7;
-
-fn wide(x: u32) -> usize {
-    x as usize
-}
-
-fn least(a: usize, b: usize) -> usize
-    ensures { λ r. ⌜ (r ≤ a) × (r ≤ b) ⌝ }
-{
-    if a < b { a } else { b }
-}
-
-// A number of a record, 0 where the input ends.
-fn read_number() -> usize {
-    let mut bytes = [0u8; 4];
-    io::read_full(0, &mut bytes);
-    let mut number = [0u32; 1];
-    input::words(&bytes, &mut number);
-    wide(number[0])
-}
-
-// Reads a part of a record to the front of room, and answers how many bytes came.
-fn read_part(room: &mut [u8]) -> usize
-    ensures { λ r. ⌜ Counts r (now (room .exit)) ⌝ }
-{
-    let count = least(read_number(), room.len());
-    io::read_full(0, &mut room[..count])
-}
-
-fn print_next(x: u32) {
-    io::write_all(STDOUT_FILENO, b" ");
-    io::print_decimal(STDOUT_FILENO, x as u64);
-}
 
 fn print_answer(number: u32, node: u32, count: u32) {
     io::write_all(STDOUT_FILENO, b":");
@@ -122,7 +92,7 @@ fn answer_record(name: &mut [u8], bytes: &mut [u8], words: &mut [u32]) -> bool {
     if letters == 0 {
         return false;
     }
-    let room = read_number();
+    let room = wide(read_number());
     let count = read_part(bytes);
     let found = input::words(&bytes[..count], words);
     io::write_all(STDOUT_FILENO, &name[..letters]);

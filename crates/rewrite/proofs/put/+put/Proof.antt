@@ -23,7 +23,7 @@ use Rattle.rewrite.proofs.finish.with_inner.Reads as with-inner-reads
 use Rattle.rewrite.proofs.finish.with_open.Reads as with-open-reads
 use Rattle.rewrite.proofs.page.last.Reads as last-reads
 use Rattle.rewrite.proofs.page.push_node.Reads as push-node-reads
-use Rattle.rewrite.proofs.put.has_right.Reads as has-right-reads
+use Rattle.plan.proofs.words.has_right.Reads as has-right-reads
 use Rattle.rewrite.proofs.put.reads_left.Reads as reads-left-reads
 use Rattle.rewrite.proofs.put.right_domain.Reads as right-domain-reads
 use Rattle.rewrite.proofs.reads.key_set.Reads as key-set-reads

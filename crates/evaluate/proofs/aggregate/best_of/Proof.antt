@@ -1,0 +1,110 @@
+use borrow.Author.Needs.{needs}
+use mathlib.Core.Path.{_≡_, ap, _∙_}
+use Prim.Native.Nat.{_-_, _≤_, _<_}
+use native.Mathlib.Omega.{arith}
+use lib.ListN.{take, drop}
+use mir.Syntax.{w64}
+use mir.Val.{toZ, ofZ}
+use Rattle.algebra.specs.Operators.{best, columnOf}
+use Rattle.evaluate.specs.Cells.{value}
+use Rattle.evaluate.specs.Choice.{chosen, inOrder}
+use Rattle.evaluate.proofs.Laws.Sums.{trip, chosen-inside, best-past, best-none, best-turn, best-end}
+use Rattle.evaluate.proofs.aggregate.best_of.Statement.{statement}
+use Rattle.evaluate.proofs.aggregate.best_of.Tie as tie
+
+abbrev Inv-loop : tie.InvT-loop
+Inv-loop rows width p found n least answer₀ i₀ answer i = (i ≤ n) × (p < width) × (value (toZ w64 answer) ≡ best (inOrder least) (drop i (columnOf p (chosen rows width (take n found)))))
+
+abbrev μ-loop : tie.MeasureT-loop
+μ-loop rows width p found n least answer₀ i₀ answer i = i
+
+returns : tie.Need-returns Inv-loop μ-loop
+returns c = let a = c .before .before .args in best-past (a .rows .now) (a .width) (a .p) (take (a .n) (a .found .now)) (inOrder (a .least)) (c .if1 .taken)
+
+loop-holds : tie.Need-loop-holds Inv-loop μ-loop
+loop-holds c =
+    let d = c .before .before in
+    let a = d .args in
+    (search needs, search needs, best-none (a .rows .now) (a .width) (a .p) (a .found .now) (a .n) (d .pre .0) (inOrder (a .least)))
+
+sub-i : tie.Need-sub-i Inv-loop μ-loop
+sub-i c = search needs
+
+mul-index : tie.Need-mul-index Inv-loop μ-loop
+mul-index c = search needs
+
+shared-slice-read-index : tie.Need-shared-slice-read-index Inv-loop μ-loop
+shared-slice-read-index c = search needs
+
+index-requires : tie.Need-index-requires Inv-loop μ-loop
+index-requires c κs = search needs
+
+mul-better-cell : tie.Need-mul-better-cell Inv-loop μ-loop
+mul-better-cell c =
+    let d = c .before .before .before .before .before .before in
+    let a = d .args in
+    let h = chosen-inside (a .rows .now) (a .width) (a .found .now) (a .n) (c .before .before .before .loop .i - 1) (d .pre .1) (d .pre .0) (omega arith) (c .index .ensures) in
+    record { fits = omega arith }
+
+add-better-cell : tie.Need-add-better-cell Inv-loop μ-loop
+add-better-cell c =
+    let d = c .before .before .before .before .before .before in
+    let a = d .args in
+    let h = chosen-inside (a .rows .now) (a .width) (a .found .now) (a .n) (c .before .before .before .loop .i - 1) (d .pre .1) (d .pre .0) (omega arith) (c .index .ensures) in
+    record { fits = omega arith }
+
+mul-better-cell-2 : tie.Need-mul-better-cell-2 Inv-loop μ-loop
+mul-better-cell-2 c =
+    let d = c .before .before .before .before .before .before in
+    let a = d .args in
+    let h = chosen-inside (a .rows .now) (a .width) (a .found .now) (a .n) (c .before .before .before .loop .i - 1) (d .pre .1) (d .pre .0) (omega arith) (c .index .ensures) in
+    record { fits = omega arith }
+
+shared-slice-copy-out-better-cell : tie.Need-shared-slice-copy-out-better-cell Inv-loop μ-loop
+shared-slice-copy-out-better-cell c =
+    let d = c .before .before .before .before .before .before in
+    let a = d .args in
+    let h = chosen-inside (a .rows .now) (a .width) (a .found .now) (a .n) (c .before .before .before .loop .i - 1) (d .pre .1) (d .pre .0) (omega arith) (c .index .ensures) in
+    omega arith
+
+better-cell-requires : tie.Need-better-cell-requires Inv-loop μ-loop
+better-cell-requires c κs = search needs
+
+loop-less : tie.Need-loop-less Inv-loop μ-loop
+loop-less c = search needs
+
+loop-again : tie.Need-loop-again Inv-loop μ-loop
+loop-again c =
+    let d = c .before .before .before .before .before .before .before .before in
+    let a = d .args in
+    let l = c .before .before .before .before .before .loop in
+    let r = c .better-cell in
+    (omega arith, l .inv .1, best-turn (a .rows .now) (a .width) (a .p) (a .found .now) (a .n) (d .pre .0) (l .i) (d .pre .1) (l .inv .1) (c .before .before .before .before .loop-test .taken) (l .inv .0) (c .before .before .index .ensures) (inOrder (a .least)) (toZ w64 (ofZ w64 (r .result))) _ _ (ap value (trip (r .result) (record { sfits = r .ok })) ∙ r .ensures) (trip _ (record { sfits = c .before .better-cell-arg .given })) (l .inv .2))
+
+returns-2 : tie.Need-returns-2 Inv-loop μ-loop
+returns-2 c =
+    let d = c .before .before .before .before in
+    let a = d .args in
+    let l = c .before .loop in
+    best-end (a .rows .now) (a .width) (a .p) (a .found .now) (a .n) (d .pre .0) (l .i) (c .loop-test .left) (inOrder (a .least)) (l .inv .2)
+
+pub best-of-spec : {M : Type 1} → statement M
+best-of-spec =
+    tie.close
+    (tie.spec
+    Inv-loop
+    μ-loop
+    returns
+    loop-holds
+    sub-i
+    mul-index
+    shared-slice-read-index
+    index-requires
+    mul-better-cell
+    add-better-cell
+    mul-better-cell-2
+    shared-slice-copy-out-better-cell
+    better-cell-requires
+    loop-less
+    loop-again
+    returns-2)

@@ -1,0 +1,2 @@
+-- The laws of the program that prints cells.
+pub mod Laws
