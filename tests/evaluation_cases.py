@@ -14,18 +14,8 @@ def column(*values):
     return [[value] for value in values]
 
 
-SCRUBS = [
-    scan(0),
-    scan(1),
-    select(1, equal(local(0), outer(0, 0))),
-    group(2, COUNT),
-    dependent_join(INNER, 0, 3),
-    select(4, less(local(1), constant(2))),
-]
-
-
 def scrub_list(name, drives, scrubs, rows, limit=10):
-    return Case(name, [1, 1], SCRUBS, [column(*drives), column(*scrubs)], limit, 0, 0, rows)
+    return Case(name, [1, 1], SCRUB_NODES, [column(*drives), column(*scrubs)], limit, 0, 0, rows)
 
 
 def over_two(name, made, left, right, rows):

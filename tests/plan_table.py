@@ -130,14 +130,12 @@ def changed(words, place, word):
 
 
 # 01's plan S: drives, scrubs, and the drives that were scrubbed fewer than two times.
-SCRUB_LIST = plan(
-    [1, 1],
-    [
-        scan(0),
-        scan(1),
-        select(1, equal(local(0), outer(0, 0))),
-        group(2, COUNT),
-        dependent_join(INNER, 0, 3),
-        select(4, less(local(1), constant(2))),
-    ],
-)
+SCRUB_NODES = [
+    scan(0),
+    scan(1),
+    select(1, equal(local(0), outer(0, 0))),
+    group(2, COUNT),
+    dependent_join(INNER, 0, 3),
+    select(4, less(local(1), constant(2))),
+]
+SCRUB_LIST = plan([1, 1], SCRUB_NODES)
