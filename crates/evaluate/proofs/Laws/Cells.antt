@@ -5,6 +5,7 @@ use mathlib.Core.List.{List, [], _∷_, _++_, map, append-assoc}
 use Prim.Native.Nat.{ℕ, zero, suc, _+_, _-_, _*_, _^_, _<_, _≤_}
 use native.Mathlib.Nat.{mul-le-mul-right}
 use native.Mathlib.Omega.{arith}
+use native.Mathlib.Numerals.{add-one}
 use lib.IntN.{ℤ, pos, negsuc}
 use lib.Dec.{eqb}
 use lib.ListN.{length, getD, take, drop, set, length-append, length-drop, length-map, take-append-drop}
@@ -13,7 +14,7 @@ use borrow.Author.Tests.{ltb-true, eqb-true}
 use Rattle.algebra.specs.Lists.{all, upto, Every, done, more}
 use Rattle.algebra.specs.Value.{Value, null, num, Row, eqZ}
 use Rattle.algebra.specs.Statements.{Wide}
-use Rattle.algebra.proofs.Lists.Keep.{map-map, map-cong, map-id, each-append}
+use Rattle.algebra.proofs.Lists.Keep.{map-map, map-cong, map-id, each-append, map-append}
 use Rattle.algebra.proofs.Lists.Every.{every-of, every-map, every-mapped}
 use Rattle.algebra.proofs.Lists.Same.{and-left, and-right, eqZ-eq}
 use Rattle.algebra.proofs.Domains.Keys.{upto-below}
@@ -59,6 +60,21 @@ module _ {A : Type 0} where
   -- a part of the first of two lists
   pub part-of-first : (w k : ℕ) (p q : List A) → k + w ≤ length p → take w (drop k (p ++ q)) ≡ take w (drop k p)
   part-of-first w k p q h = rw (drop-append-le k p q (omega arith)) (take-append-le w (drop k p) q (omega (arith, length-drop k p)))
+
+  -- a property of every element
+  pub every-take : {P : A → Type 0} (n : ℕ) {xs : List A} → Every P xs → Every P (take n xs)
+  every-take zero t = done
+  every-take (suc n) done = done
+  every-take (suc n) (more h t) = more h (every-take n t)
+
+  pub every-drop : {P : A → Type 0} (n : ℕ) {xs : List A} → Every P xs → Every P (drop n xs)
+  every-drop zero t = t
+  every-drop (suc n) done = done
+  every-drop (suc n) (more h t) = every-drop n t
+
+-- the cells that were read are as many as the rows ask
+pub read-long : (s : List ℤ) (from size : ℕ) {part : List ℤ} → part ≡ take size (drop from s) → from + size ≤ length s → length part ≡ size
+read-long s from size e h = rw e (length-take-le size (drop from s) (omega (arith, length-drop from s)))
 
 -- ---- written
 
@@ -116,7 +132,7 @@ written-behind s at cs ds h =
 -- ---- a row in cells
 
 pub row-long : (s : List ℤ) (from w : ℕ) → from + w ≤ length s → length (rowIn s from w) ≡ w
-row-long s from w h = length-map (take w (drop from s)) value ∙ length-take-le w (drop from s) (omega (arith, length-drop from s))
+row-long s from w h = length-map (take w (drop from s)) value ∙ read-long s from w refl h
 
 pub row-before : (s : List ℤ) (at : ℕ) (cs : List ℤ) (from w : ℕ) → from + w ≤ at → at + length cs ≤ length s → rowIn (written s at cs) from w ≡ rowIn s from w
 unfolding written
@@ -177,6 +193,11 @@ rows-split s from w a b =
     (map-cong (λ i. rowIn s (from + (a + i) * w) w) (λ i. rowIn s (from + a * w + i * w) w)
     (every-of (λ i. ap (λ (k : ℕ). rowIn s k w) (next-place from w a i)) (upto b)))
 
+-- one row more
+pub rows-next : (s : List ℤ) (from w i : ℕ) → rowsIn s from w (i + 1) ≡ rowsIn s from w i ++ (rowIn s (from + i * w) w ∷ [])
+unfolding rowsIn
+rows-next s from w i = rw (add-one i) (map-append (λ k. rowIn s (from + k * w) w) (upto i) (i ∷ []))
+
 pub rows-before : (s : List ℤ) (at : ℕ) (cs : List ℤ) (from w count : ℕ) → from + count * w ≤ at → at + length cs ≤ length s → rowsIn (written s at cs) from w count ≡ rowsIn s from w count
 rows-before s at cs from w count h g =
     same-rows (written s at cs) s from from w count (λ i l. row-before s at cs (from + i * w) w (omega (arith, mul-le-mul-right w l)) g)
@@ -184,11 +205,6 @@ rows-before s at cs from w count h g =
 pub rows-behind : (s : List ℤ) (at : ℕ) (cs : List ℤ) (from w count : ℕ) → at + length cs ≤ from → at + length cs ≤ length s → rowsIn (written s at cs) from w count ≡ rowsIn s from w count
 rows-behind s at cs from w count h g =
     same-rows (written s at cs) s from from w count (λ i l. row-behind s at cs (from + i * w) w (omega arith) g)
-
--- the rows at numbers below count
-pub rows-chosen : (s : List ℤ) (from w count : ℕ) {is : List ℕ} → Every (λ i. i < count) is → map (λ i. getD (rowsIn s from w count) i []) is ≡ map (λ i. rowIn s (from + i * w) w) is
-rows-chosen s from w count h =
-    map-cong (λ i. getD (rowsIn s from w count) i []) (λ i. rowIn s (from + i * w) w) (every-map (rows-at s from w count) h)
 
 -- rows of a part of the cells, chosen by number
 pub chosen-of-part : (s : List ℤ) (from w count : ℕ) {is : List ℕ} → Every (λ i. i < count) is → map (λ i. rowIn (take (count * w) (drop from s)) (i * w) w) is ≡ map (λ i. rowIn s (from + i * w) w) is

@@ -2,14 +2,14 @@
 use mathlib.Core.Path.{_≡_, refl, sym, ap, _∙_, subst}
 use mathlib.Core.Bool.{Bool, true, false, cond, _&&_, and-true, and-assoc}
 use mathlib.Core.List.{List, [], _∷_, _++_, map, append-nil}
-use Prim.Native.Nat.{ℕ, zero, suc, _+_, _*_, _<_, _≤_}
+use Prim.Native.Nat.{ℕ, _+_, _*_, _<_, _≤_}
 use native.Mathlib.Omega.{arith}
 use native.Mathlib.Nat.{add-zero, mul-le-mul-right}
 use native.Mathlib.Numerals.{add-one}
 use lib.IntN.{ℤ}
 use lib.ListN.{length, getD, take, drop, set, length-set}
 use lib.Seq.{take-suc, take-suc-set, drop-set-lt, drop-drop, getD-drop, getD-take, length-take-le}
-use Rattle.algebra.specs.Lists.{keep, all, upto, Every, done, more}
+use Rattle.algebra.specs.Lists.{keep, all, upto, Every}
 use Rattle.algebra.specs.Value.{Value, Row, Test, holds}
 use Rattle.algebra.specs.Plan.{Conjunct}
 use Rattle.algebra.specs.Operators.{Outer, valueOf, passes}
@@ -21,15 +21,15 @@ use Rattle.plan.specs.Items.{between, termOf, termRight, testOf, conjunctOf, co
 use Rattle.plan.specs.Terms.{meant}
 use Rattle.plan.specs.declared.terms.Term.{Term}
 use Rattle.plan.proofs.Laws.Header.{both}
-use Rattle.plan.proofs.Laws.Formed.{between-low, between-high, mapped-at}
-use Rattle.plan.proofs.Laws.Items.{items-length}
+use Rattle.plan.proofs.Laws.Formed.{between-low, between-high}
 use Rattle.evaluate.specs.declared.outer.Binding.{Binding}
 use Rattle.evaluate.specs.declared.operand.Operand.{Operand}
 use Rattle.evaluate.specs.Cells.{value, rowIn}
 use Rattle.evaluate.specs.Bindings.{Held, taken}
 use Rattle.evaluate.specs.Choice.{rowAt, There, Below, conjunctsFrom, meets, matches}
 use Rattle.evaluate.proofs.Laws.Cells.{row-long}
-use Rattle.evaluate.proofs.Laws.Operands.{all-at}
+use Rattle.evaluate.proofs.Laws.Operands.{every-there}
+use Rattle.evaluate.proofs.Laws.Sorted.{item-passes}
 
 -- ---- all of them
 
@@ -41,18 +41,21 @@ number-more found i e h q = rw (q, add-one i) (take-suc-set found i i h ∙ ap (
 pub numbers-end : (found : List ℕ) (i count : ℕ) → take i found ≡ upto i → count ≤ i → i ≤ count → take count found ≡ upto count
 numbers-end found i count e g h = let q : i ≡ count = omega arith in rw q at e
 
--- ---- an element of a list all of which have a property
+-- ---- the chosen rows are there
 
-pub every-there : {A : Type 0} {P : A → Type 0} (d : A) {xs : List A} → Every P xs → (i : ℕ) → i < length xs → P (getD xs i d)
-every-there d done i h = absurd (omega arith)
-every-there d (more p t) zero h = p
-every-there d (more p t) (suc i) h = every-there d t i (omega arith)
+pub below-there : (rows : List ℤ) (width : ℕ) {count : ℕ} {is : List ℕ} → count * width ≤ length rows → Below count is → There rows width is
+below-there rows width {count} room t = every-map (λ k (h : k < count). omega (arith, mul-le-mul-right width h)) t
+
+-- what all of them have the number at k has
+pub next-one : {P : ℕ → Type 0} (found : List ℕ) (n : ℕ) → Every P (take n found) → (k : ℕ) → k < n → n ≤ length found → P (getD found k 0)
+next-one found n every k h g =
+    let l : k < length (take n found) = rw (length-take-le n found g) h in
+    rw (getD-take n found k 0 h) at (every-there 0 every k l)
 
 -- row k, which the code read at place i of the first n, is there
-pub chosen-there : (s : List ℤ) (w n : ℕ) (found : List ℕ) (i : ℕ) → There s w (take n found) → i < n → n ≤ length found → getD found i 0 * w + w ≤ length s
-chosen-there s w n found i t h g =
-    let l : i < length (take n found) = rw (length-take-le n found g) h in
-    rw (getD-take n found i 0 h) at (every-there 0 t i l)
+pub chosen-inside : (rows : List ℤ) (width : ℕ) (found : List ℕ) (n i : ℕ) {k : ℕ} → There rows width (take n found) → n ≤ length found → i < n → k ≡ getD found i 0
+    → k * width + width ≤ length rows
+chosen-inside rows width found n i there few l e = rw e (next-one found n there i l few)
 
 -- ---- of the first i numbers those that pass a test
 
@@ -66,6 +69,18 @@ pub record Narrowed (p : ℕ → Bool) (n : ℕ) (found₀ found : List ℕ) (ke
 at-front : (l : List ℕ) (i : ℕ) → getD (drop i l) 0 0 ≡ getD l i 0
 at-front l i = getD-drop i l 0 0 ∙ ap (λ (k : ℕ). getD l k 0) (add-zero i)
 
+-- two lists that agree from i on agree at i, and from i + 1 on
+module _ (l m : List ℕ) (i : ℕ) (e : drop i l ≡ drop i m) where
+  pub rest-at : getD l i 0 ≡ getD m i 0
+  rest-at = sym (at-front l i) ∙ ap (λ (k : List ℕ). getD k 0 0) e ∙ at-front m i
+
+  pub rest-next : drop (i + 1) l ≡ drop (i + 1) m
+  rest-next = sym (drop-drop 1 i l) ∙ ap (drop 1) e ∙ drop-drop 1 i m
+
+-- one number more is looked at
+pub keep-next : (p : ℕ → Bool) (l : List ℕ) (i : ℕ) → i < length l → keep p (take (i + 1) l) ≡ keep p (take i l) ++ cond (p (getD l i 0)) (getD l i 0 ∷ []) []
+keep-next p l i h = rw (add-one i, take-suc l i 0 h) (keep-append p (take i l) (getD l i 0 ∷ []))
+
 module _ {p : ℕ → Bool} {n : ℕ} {found₀ : List ℕ} where
   pub narrowed-start : Narrowed p n found₀ found₀ 0 0
   narrowed-start = record { inside = omega arith; behind = omega arith; long = refl; rest = refl; chosen = refl }
@@ -73,15 +88,7 @@ module _ {p : ℕ → Bool} {n : ℕ} {found₀ : List ℕ} where
   module _ {found : List ℕ} {kept i : ℕ} (s : Narrowed p n found₀ found kept i) where
     -- the number at i has not been written over
     pub narrowed-at : getD found i 0 ≡ getD found₀ i 0
-    narrowed-at = sym (at-front found i) ∙ ap (λ (l : List ℕ). getD l 0 0) (s .rest) ∙ at-front found₀ i
-
-    -- the numbers from i + 1 on
-    rest-next : drop (i + 1) found ≡ drop (i + 1) found₀
-    rest-next = sym (drop-drop 1 i found) ∙ ap (drop 1) (s .rest) ∙ drop-drop 1 i found₀
-
-    -- one number more is looked at
-    keep-next : i < length found₀ → keep p (take (i + 1) found₀) ≡ keep p (take i found₀) ++ cond (p (getD found₀ i 0)) (getD found₀ i 0 ∷ []) []
-    keep-next h = rw (add-one i, take-suc found₀ i 0 h) (keep-append p (take i found₀) (getD found₀ i 0 ∷ []))
+    narrowed-at = rest-at found found₀ i (s .rest)
 
     module _ (h : i < n) (g : n ≤ length found₀) where
       -- it passes
@@ -94,8 +101,8 @@ module _ {p : ℕ → Bool} {n : ℕ} {found₀ : List ℕ} where
             inside = omega arith;
             behind = omega arith;
             long = length-set found kept k ∙ s .long;
-            rest = drop-set-lt (i + 1) found kept k (omega arith) ∙ rest-next;
-            chosen = rw (keep-next (omega arith), ← r, e, add-one kept) (take-suc-set found kept k (omega arith) ∙ ap (λ (l : List ℕ). l ++ (k ∷ [])) (s .chosen));
+            rest = drop-set-lt (i + 1) found kept k (omega arith) ∙ rest-next found found₀ i (s .rest);
+            chosen = rw (keep-next p found₀ i (omega arith), ← r, e, add-one kept) (take-suc-set found kept k (omega arith) ∙ ap (λ (l : List ℕ). l ++ (k ∷ [])) (s .chosen));
           }
 
       -- it does not
@@ -107,8 +114,8 @@ module _ {p : ℕ → Bool} {n : ℕ} {found₀ : List ℕ} where
             inside = omega arith;
             behind = omega arith;
             long = s .long;
-            rest = rest-next;
-            chosen = rw (keep-next (omega arith), ← r, e, append-nil) (s .chosen);
+            rest = rest-next found found₀ i (s .rest);
+            chosen = rw (keep-next p found₀ i (omega arith), ← r, e, append-nil) (s .chosen);
           }
 
     -- all were looked at
@@ -122,7 +129,7 @@ module _ {p : ℕ → Bool} {n : ℕ} {found₀ : List ℕ} where
 -- row j, which the code read at place i, is there
 pub narrowed-there : (s : List ℤ) (w : ℕ) {p : ℕ → Bool} {n : ℕ} {found₀ found : List ℕ} {kept i : ℕ} → Narrowed p n found₀ found kept i
     → There s w (take n found₀) → i < n → n ≤ length found₀ → {j : ℕ} → j ≡ getD found i 0 → j * w + w ≤ length s
-narrowed-there s w {n = n} {found₀ = found₀} {i = i} m t h g q = rw (q ∙ narrowed-at m) (chosen-there s w n found₀ i t h g)
+narrowed-there s w {n = n} {found₀ = found₀} {i = i} m t h g q = chosen-inside s w found₀ n i t g h (q ∙ narrowed-at m)
 
 -- what the code made of row k
 module _ (test : ℕ) (first second : Operand) (s : List ℤ) (w k : ℕ) where
@@ -147,9 +154,7 @@ pub record Right (ws : List ℕ) (j : ℕ) : Type 0 where
 pub right-at : (ws : List ℕ) (j count i : ℕ) → all conjunctRight (itemsFrom ws j count) ≡ true → i < count → Right ws (j + i)
 right-at ws j count i e h =
     let x = itemAt ws (j + i) in
-    let l : i < length (itemsFrom ws j count) = rw (items-length ws j count) h in
-    let r : conjunctRight x ≡ true = rw (mapped-at (λ k. itemAt ws (j + k)) count i 0 h) at (all-at conjunctRight (itemsFrom ws j count) i (itemAt ws (j + 0)) e l) in
-    let t = both (between 1 7 (x .tag)) (termRight (x .first) && termRight (x .second)) r in
+    let t = both (between 1 7 (x .tag)) (termRight (x .first) && termRight (x .second)) (item-passes conjunctRight ws j i count e h) in
     let f = both (termRight (x .first)) (termRight (x .second)) (t .1) in
     record { low = between-low 1 7 (x .tag) (t .0); high = between-high 1 7 (x .tag) (t .0); first = f .0; second = f .1 }
 
@@ -177,7 +182,7 @@ module _ {ws layout sizes : List ℕ} {cells scratch : List ℤ} {b : Binding} {
 
   module _ {found : List ℕ} {n i : ℕ} (s : Found ws layout sizes cells scratch b j left rows width count found n i) (room : count * width ≤ length rows) where
     pub found-there : There rows width (take n found)
-    found-there = every-map (λ k (h : k < count). omega (arith, mul-le-mul-right width h)) (s .below)
+    found-there = below-there rows width room (s .below)
 
     -- one conjunct more, whose tag and terms the code read
     pub found-more : {test m : ℕ} (first second : Operand) (t u : Term) {after : List ℕ} → test ≡ itemWord ws (j + i) 0 → meant t ≡ termOf (threeAt ws (j + i) 1) → meant u ≡ termOf (threeAt ws (j + i) 4)

@@ -4,10 +4,9 @@ use mathlib.Core.Bool.{Bool, _&&_, and-comm, false, not, true}
 use mathlib.Core.List.{List, [], _++_, _∷_, append-assoc, append-nil, map}
 use Prim.Native.Nat.{ℕ, _*_, _+_, _<_, _≤_}
 use native.Mathlib.Omega.{arith}
-use lib.Dec.{leb}
 use lib.IntN.{ℤ}
 use lib.ListN.{length, length-append, length-map, take}
-use borrow.Author.Tests.{le-leb, not-true}
+use borrow.Author.Tests.{not-true}
 use Rattle.algebra.specs.Lists.{Every, all, done, keep, more, upto}
 use Rattle.algebra.specs.Value.{Row, sameRow}
 use Rattle.algebra.specs.Plan as algebra
@@ -23,9 +22,10 @@ use Rattle.plan.proofs.Laws.Loops.{all-append, keep-few}
 use Rattle.evaluate.specs.declared.made.Made.the-variants.{OutOfRange, Rows}
 use Rattle.evaluate.specs.Cells.{cell, cellsOf, inRange, written}
 use Rattle.evaluate.specs.Choice.{Below}
-use Rattle.evaluate.specs.Made.{Makes, madeOf}
+use Rattle.evaluate.specs.Made.{Makes}
 use Rattle.evaluate.proofs.Laws.Cells.{cells-length, written-nothing}
-use Rattle.evaluate.proofs.Laws.Picking.{row-more}
+use Rattle.evaluate.proofs.Laws.Appending.{row-more}
+use Rattle.evaluate.proofs.Laws.Making.{makes-rows, makes-out}
 
 -- ---- lists of rows
 
@@ -120,7 +120,7 @@ module _ (ks : List ℕ) (gs : List algebra.Aggregate) (f : ℕ → Row) (count 
       room = omega (arith, inv .room);
       wide = every-append (inv .wide) (more size done);
       ranged = rw (all-append (all inRange) (inv .rows) (g ∷ []), inv .ranged, range);
-      stands = writes ∙ rw (inv .stands, ← inv .many) (row-more s₀ to w (inv .rows) g (inv .wide) (rw (inv .many, size) fits));
+      stands = row-more s₀ to w (inv .rows) (inv .wide) (inv .many) g size (omega arith) (inv .stands) writes;
       below = lower;
     }
 
@@ -129,19 +129,11 @@ module _ (ks : List ℕ) (gs : List algebra.Aggregate) (f : ℕ → Row) (count 
     grouped-all h = let q : left ≡ 0 = omega arith in sym (append-nil (inv .rows)) ∙ (rw q at (inv .whole))
 
     pub grouped-makes : (limit : ℕ) → left ≤ 0 → count ≤ limit → Makes limit (groupsBy ks gs (map f (upto count))) to s₀ s (Rows groups)
-    unfolding madeOf
-    grouped-makes limit h g =
-        let fits : leb (length (inv .rows)) limit ≡ true = le-leb (length (inv .rows)) limit (omega (arith, inv .many, inv .room)) in
-        rw (← grouped-all h) (record { answer = rw (fits, inv .ranged, inv .many); stands = λ k e. inv .stands })
+    grouped-makes limit h g = rw (← grouped-all h) (makes-rows limit (inv .rows) to s₀ s groups (inv .many) (omega (arith, inv .room)) (inv .ranged) (inv .stands))
 
     -- a group is out of range
     pub grouped-fails : (limit : ℕ) (t : List ℤ) (g : Row) (rs : List Row) → groupsBy ks gs (map f (take left rest)) ≡ g ∷ rs → all inRange g ≡ false → count ≤ limit → Makes limit (groupsBy ks gs (map f (upto count))) to s₀ t OutOfRange
-    unfolding madeOf
     grouped-fails limit t g rs e range h =
         let few : length (groupsBy ks gs (map f (upto count))) ≤ count = omega (arith, groups-few ks gs (map f (upto count)), length-map (upto count) f, length-upto count) in
-        let fits : leb (length (groupsBy ks gs (map f (upto count)))) limit ≡ true = le-leb _ limit (omega arith) in
         let out : all (all inRange) (groupsBy ks gs (map f (upto count))) ≡ false = ap (all (all inRange)) (sym (inv .whole) ∙ ap (λ (l : List Row). inv .rows ++ l) e) ∙ rw (all-append (all inRange) (inv .rows) (g ∷ rs), inv .ranged, range) in
-        record { answer = rw (fits, out); stands = λ k q. absurd (never k q) }
-      where
-        never : (k : ℕ) → OutOfRange ≡ Rows k → ⊥
-        never k q = let z : _≡_ {A = ℕ} 0 1 = cc in omega arith
+        makes-out limit (groupsBy ks gs (map f (upto count))) to s₀ t (omega arith) out

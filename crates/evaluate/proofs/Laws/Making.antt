@@ -1,37 +1,38 @@
 -- What an operator answers for the rows that it made: rows chosen, and rows with a new column.
 use mathlib.Core.Path.{_≡_, refl, sym, ap, _∙_}
-use mathlib.Core.Bool.{Bool, true, false}
+use mathlib.Core.Bool.{Bool, true, false, cond}
 use mathlib.Core.List.{List, [], _∷_, _++_, map}
 use Prim.Native.Nat.{ℕ, _+_, _*_, _<_, _≤_}
 use native.Mathlib.Omega.{arith}
-use native.Mathlib.Numerals.{add-one}
 use native.Mathlib.Nat.{mul-le-mul-right}
 use lib.IntN.{ℤ}
-use lib.ListN.{length, take, drop, set, length-map, length-append, length-drop}
+use lib.ListN.{length, take, drop, set, length-map, length-append}
 use lib.Seq.{take-all, length-take-le}
-use borrow.Author.Tests.{le-leb, lt-leb}
+use lib.Dec.{leb}
+use borrow.Author.Tests.{le-leb, lt-leb, leb-true}
 use Rattle.algebra.specs.Lists.{all, keep, upto, done, more}
-use Rattle.algebra.specs.Value.{Value, null, Row}
+use Rattle.algebra.specs.Value.{Value, Row}
 use Rattle.algebra.specs.Plan.{Conjunct}
 use Rattle.algebra.specs.Operators.{Outer, passes}
 use Rattle.algebra.specs.Statements.{Wide}
-use Rattle.algebra.proofs.Lists.Every.{every-map, every-mapped, every-unmapped, every-append, every-keep, every-at, every-head, every-back}
+use Rattle.algebra.proofs.Lists.Every.{every-map, every-mapped, every-unmapped, every-append, every-keep, every-head, every-back}
 use Rattle.algebra.proofs.Lists.Keep.{map-append}
-use Rattle.algebra.proofs.Domains.Keys.{upto-all}
 use Rattle.plan.proofs.Laws.Loops.{all-of}
 use Rattle.plan.proofs.Laws.Numbered.{every-all}
 use Rattle.evaluate.specs.declared.rows.Block.{Block}
 use Rattle.evaluate.specs.declared.made.Made.the-variants.{Rows, TooMany, OutOfRange}
 use Rattle.evaluate.specs.declared.operand.Operand.{Operand}
 use Rattle.evaluate.specs.declared.operand.Operand.the-variants.{Column, Fixed}
+use Rattle.evaluate.specs.declared.made.Made.{Made}
 use Rattle.evaluate.specs.Cells.{value, cell, inRange, rowIn, rowsIn, cellsOf, written}
 use Rattle.evaluate.specs.Rows.{source, placeOf, rowOf, rowsOf, Within, Before}
 use Rattle.evaluate.specs.Bindings.{taken, Light, combined}
 use Rattle.evaluate.specs.Choice.{matches}
-use Rattle.evaluate.specs.Made.{madeOf, Makes}
-use Rattle.evaluate.proofs.Laws.Cells.{cell-value, written-nothing, written-length, written-more, rows-length, rows-wide, cells-length}
-use Rattle.evaluate.proofs.Laws.Partners.{partners-chosen, block-row, before-within, before-later}
-use Rattle.evaluate.proofs.Laws.Appending.{row-wide, row-behind-rows}
+use Rattle.evaluate.specs.Made.{madeOf, Makes, counted}
+use Rattle.evaluate.proofs.Laws.Cells.{cell-value, written-nothing, written-length, written-more, rows-length, rows-wide, cells-length, rows-next}
+use Rattle.evaluate.proofs.Laws.Partners.{partners-chosen, block-row, before-within, before-later, one-of}
+use Rattle.evaluate.proofs.Laws.Appending.{row-wide, row-more}
+use Rattle.evaluate.proofs.Laws.Ranges.{entry-ranged}
 
 -- ---- answers
 
@@ -44,25 +45,25 @@ module _ (R : ℕ) (rows : List Row) (to : ℕ) (s t : List ℤ) where
   unfolding madeOf
   makes-too-many h = record { answer = rw (lt-leb (length rows) R h); stands = λ k q. cc }
 
-  makes-out : length rows ≤ R → all (all inRange) rows ≡ false → Makes R rows to s t OutOfRange
+  pub makes-out : length rows ≤ R → all (all inRange) rows ≡ false → Makes R rows to s t OutOfRange
   unfolding madeOf
   makes-out h g = record { answer = rw (le-leb (length rows) R h, g); stands = λ k q. cc }
 
--- ---- the rows of a block, by number
+pub made-says : (R : ℕ) (rows : List Row) {r : Made} {k : ℕ} → r ≡ madeOf R rows → r ≡ Rows k → (k ≡ length rows) × (length rows ≤ R) × (all (all inRange) rows ≡ true)
+unfolding madeOf
+made-says R rows {r} {k} e q = go (leb (length rows) R) refl (all (all inRange) rows) refl (sym e ∙ q)
+  where
+    go : (a : Bool) → leb (length rows) R ≡ a → (b : Bool) → all (all inRange) rows ≡ b → cond a (cond b (Rows (length rows)) OutOfRange) TooMany ≡ Rows k → (k ≡ length rows) × (length rows ≤ R) × (all (all inRange) rows ≡ true)
+    go true ea true eb p = ((cc), leb-true _ _ ea, eb)
+    go true ea false eb p = let z : _≡_ {A = ℕ} 0 1 = cc in absurd (omega arith)
+    go false ea b eb p = let z : _≡_ {A = ℕ} 0 1 = cc in absurd (omega arith)
 
-pub rows-next : (s : List ℤ) (from w i : ℕ) → rowsIn s from w (i + 1) ≡ rowsIn s from w i ++ (rowIn s (from + i * w) w ∷ [])
-unfolding rowsIn
-rows-next s from w i = rw (add-one i) (map-append (λ k. rowIn s (from + k * w) w) (upto i) (i ∷ []))
-
--- what holds of all holds of one
-one-of : (s : List ℤ) (from w count i : ℕ) (p : Row → Bool) → all p (rowsIn s from w count) ≡ true → i < count → p (rowIn s (from + i * w) w) ≡ true
-unfolding rowsIn
-one-of s from w count i p h l =
-    upto-all {P = λ k. p (rowIn s (from + k * w) w) ≡ true} count (every-unmapped (λ k. rowIn s (from + k * w) w) (upto count) (every-all p (rowsIn s from w count) h)) i l
-
--- the cells that were read are as many as the rows ask
-pub read-long : (s : List ℤ) (from size : ℕ) {part : List ℤ} → part ≡ take size (drop from s) → from + size ≤ length s → length part ≡ size
-read-long s from size e h = rw e (length-take-le size (drop from s) (omega (arith, length-drop from s)))
+pub counted-says : (R count : ℕ) {r : Made} {k : ℕ} → r ≡ counted R count → r ≡ Rows k → (k ≡ count) × (count ≤ R)
+counted-says R count {r} {k} e q = go (leb count R) refl (sym e ∙ q)
+  where
+    go : (a : Bool) → leb count R ≡ a → cond a (Rows count) TooMany ≡ Rows k → (k ≡ count) × (count ≤ R)
+    go true ea p = ((cc), leb-true _ _ ea)
+    go false ea p = let z : _≡_ {A = ℕ} 0 1 = cc in absurd (omega arith)
 
 -- ---- select
 
@@ -84,8 +85,7 @@ select-makes o cs cells s b limit to n found {t = t} p e h l g w =
 
 -- what an operand takes of a row in range is in range
 taken-light : (x : Operand) (r : Row) → all inRange r ≡ true → Light x → inRange (taken x r) ≡ true
-unfolding inRange
-taken-light (Column p) r h l = every-at {P = λ v. inRange v ≡ true} null refl (every-all inRange r h) p
+taken-light (Column p) r h l = entry-ranged r p h
 taken-light (Fixed z) r h l = l
 
 abbrev pub added : ℕ → Operand → Operand → Row → Row
@@ -187,15 +187,14 @@ module _ (cells s : List ℤ) (b : Block) (t : ℕ) (first second : Operand) whe
           let long : length (map cell r) ≡ b .width = length-map r cell ∙ row-wide cells b s i inside here in
           let u-is : u ≡ written scratch at (map cell r) = copied ∙ ap (λ (q : Row). written scratch at (map cell q)) same-before in
           let x-is : x ≡ cell (combined t (taken first r) (taken second r)) = sym (cell-value x) ∙ ap cell e in
+          let here-is : set u (at + b .width) x ≡ written scratch at (map cell (added t first second r)) =
           ap (λ (l : List ℤ). set l (at + b .width) x) u-is
           ∙ ap (λ (k : ℕ). set (written scratch at (map cell r)) (at + k) x) (sym long)
           ∙ written-more scratch at (map cell r) x (omega (arith, below, scratch-long, long))
           ∙ ap (λ (z : ℤ). written scratch at (map cell r ++ (z ∷ []))) x-is
-          ∙ ap (λ (l : List ℤ). written scratch at l) (sym (map-append cell r (combined t (taken first r) (taken second r) ∷ [])))
-          ∙ ap (λ (l : List ℤ). written l at (map cell (added t first second r))) so-far
-          ∙ ap (λ (k : ℕ). written (written s to (cellsOf (addedTo cells s b t first second i))) (to + k * w) (map cell (added t first second r))) (sym (added-length i))
-          ∙ row-behind-rows s to w (addedTo cells s b t first second i) (added-wide i inside (omega arith)) (added t first second r)
-          (one-longer r (row-wide cells b s i inside here)) (rw (added-length i) (omega (arith, below)))
+          ∙ ap (λ (l : List ℤ). written scratch at l) (sym (map-append cell r (combined t (taken first r) (taken second r) ∷ []))) in
+          row-more s to w (addedTo cells s b t first second i) (added-wide i inside (omega arith)) (added-length i) (added t first second r)
+          (one-longer r (row-wide cells b s i inside here)) (omega (arith, below)) so-far here-is
           ∙ ap (λ (rows : List Row). written s to (cellsOf rows)) (sym (added-next i))
 
   -- a number in range, or not

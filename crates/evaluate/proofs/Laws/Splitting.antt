@@ -3,29 +3,26 @@ use mathlib.Core.Path.{_∙_, _≡_, ap, refl, sym}
 use mathlib.Core.Bool.{Bool, _&&_, false, not, true}
 use mathlib.Core.List.{List, [], _++_, _∷_, append-nil, map}
 use mathlib.Core.Logic.{_⊎_, inl, inr}
-use Prim.Native.Nat.{ℕ, zero, suc, _*_, _+_, _-_, _^_, _<_, _≤_}
+use Prim.Native.Nat.{ℕ, _*_, _+_, _-_, _^_, _<_, _≤_}
 use native.Mathlib.Numerals.{add-one}
 use native.Mathlib.Omega.{arith}
 use lib.IntN.{ℤ}
 use lib.ListN.{drop, drop-of-length-le, getD, length, length-set, set, take}
-use lib.Seq.{drop-cons, drop-drop, drop-set-lt, getD-drop, getD-take, length-take-le, take-suc, take-suc-set}
+use lib.Seq.{drop-cons, drop-set-lt, getD-take, length-take-le, take-suc-set}
 use lib.Signed.{mag}
 use mir.Syntax.{w64}
-use mir.Val.{ofZ, toZ}
-use mir.ValLaws.{toZ-ofZ}
-use Rattle.algebra.specs.Lists.{Every, done, keep, more}
+use mir.Val.{ofZ}
+use Rattle.algebra.specs.Lists.{Every, keep}
 use Rattle.algebra.specs.Value.{Row, holds, null, same, sameRow}
 use Rattle.algebra.specs.Operators.{picked}
-use Rattle.algebra.proofs.Lists.Keep.{keep-append}
 use Rattle.algebra.proofs.Lists.Same.{sameValue-eq, sameValue-refl}
 use Rattle.evaluate.specs.Cells.{cell, value}
 use Rattle.evaluate.specs.Choice.{sameKey}
 use Rattle.evaluate.proofs.Laws.Cells.{cell-value}
+use Rattle.evaluate.proofs.Laws.Comparing.{bits-same}
+use Rattle.evaluate.proofs.Laws.Choices.{next-one, rest-at, rest-next, keep-next}
 
 -- ---- rows of the same key
-
-bits-same : (x y : ℤ) → mag x < 2 ^ 63 → mag y < 2 ^ 63 → ofZ w64 x ≡ ofZ w64 y → x ≡ y
-bits-same x y h g e = sym (toZ-ofZ w64 x (record { sfits = h })) ∙ ap (toZ w64) e ∙ toZ-ofZ w64 y (record { sfits = g })
 
 value-same : (x y : ℤ) → value x ≡ value y → x ≡ y
 value-same x y e = sym (cell-value x) ∙ ap cell e ∙ cell-value y
@@ -61,7 +58,7 @@ module _ (ps : List ℕ) (count : ℕ) (a b : Row) (at : ℕ) (long : count ≤ 
 
   module _ (x y : ℤ) {p : ℕ} (is : p ≡ getD ps at 0) (first : value x ≡ getD a p null) (second : value y ≡ getD b p null) where
     pub key-next : mag x < 2 ^ 63 → mag y < 2 ^ 63 → ofZ w64 x ≡ ofZ w64 y → at < count → leftSame ps count a b at ≡ leftSame ps count a b (at + 1)
-    key-next h g e l = agree l (rw (← is) (sym first ∙ ap value (bits-same x y h g e) ∙ second))
+    key-next h g e l = agree l (rw (← is) (sym first ∙ ap value (bits-same (record { sfits = h }) (record { sfits = g }) e) ∙ second))
 
     pub key-stop : (ofZ w64 x ≡ ofZ w64 y → ⊥) → at < count → false ≡ leftSame ps count a b at
     key-stop f l = apart l (λ e. f (ap (ofZ w64) (value-same x y (first ∙ (rw is e) ∙ sym second))))
@@ -71,13 +68,6 @@ module _ (ps : List ℕ) (count : ℕ) (a b : Row) (at : ℕ) (long : count ≤ 
       let size : length (take count ps) ≡ count = length-take-le count ps long in
       let none : drop at (take count ps) ≡ [] = drop-of-length-le (take count ps) {i = at} (omega arith) in
       rw none
-
--- ---- a number in a list of which every element has a property
-
-pub every-here : {P : ℕ → Type 0} {xs : List ℕ} → Every P xs → (i : ℕ) → i < length xs → P (getD xs i 0)
-every-here done i h = absurd (omega arith)
-every-here (more g t) zero h = g
-every-here (more g t) (suc i) h = every-here t i (omega arith)
 
 -- ---- numbers parted by a test
 
@@ -98,29 +88,18 @@ module _ (p : ℕ → Bool) (r₀ f₀ : List ℕ) (n : ℕ) where
 
   module _ (q : ℕ → Bool) {x i : ℕ} (is : x ≡ getD r₀ i 0) (h : i < length r₀) where
     keep-in : q x ≡ true → keep q (take (i + 1) r₀) ≡ keep q (take i r₀) ++ (x ∷ [])
-    keep-in e = rw (add-one i, take-suc r₀ i 0 h, ← is, keep-append q (take i r₀) (x ∷ []), e)
+    keep-in e = rw (keep-next q r₀ i h, ← is, e)
 
     keep-out : q x ≡ false → keep q (take (i + 1) r₀) ≡ keep q (take i r₀)
-    keep-out e = rw (add-one i, take-suc r₀ i 0 h, ← is, keep-append q (take i r₀) (x ∷ []), e) (append-nil (keep q (take i r₀)))
+    keep-out e = rw (keep-next q r₀ i h, ← is, e) (append-nil (keep q (take i r₀)))
 
   module _ {r f : List ℕ} {members others i : ℕ} (inv : Parted p r₀ f₀ n r f members others i) (l : i < n) (g : n ≤ length r₀) where
     -- number i still stands where it was
     pub number-same : getD r i 0 ≡ getD r₀ i 0
-    number-same =
-        let z : i + 0 ≡ i = omega arith in
-        rw z at (sym (getD-drop i r 0 0) ∙ ap (λ (s : List ℕ). getD s 0 0) (inv .still) ∙ getD-drop i r₀ 0 0)
-
-    still-more : drop (i + 1) r ≡ drop (i + 1) r₀
-    still-more = sym (drop-drop 1 i r) ∙ ap (drop 1) (inv .still) ∙ drop-drop 1 i r₀
-
-    number-still : {P : ℕ → Type 0} → Every P (take n r₀) → P (getD r i 0)
-    number-still {P} t =
-        let size : length (take n r₀) ≡ n = length-take-le n r₀ g in
-        let here : P (getD (take n r₀) i 0) = every-here t i (omega arith) in
-        rw (number-same, ← getD-take n r₀ i 0 l) here
+    number-same = rest-at r r₀ i (inv .still)
 
     pub number-has : {P : ℕ → Type 0} → Every P (take n r₀) → {x : ℕ} → x ≡ getD r i 0 → P x
-    number-has t e = rw e (number-still t)
+    number-has t e = rw (e ∙ number-same) (next-one r₀ n t i l g)
 
     -- it passes
     pub parted-member : {x : ℕ} → x ≡ getD r i 0 → p x ≡ true → n ≤ length f₀ → Parted p r₀ f₀ n r (set f members x) (members + 1) others (i + 1)
@@ -132,7 +111,7 @@ module _ (p : ℕ → Bool) (r₀ f₀ : List ℕ) (n : ℕ) where
           within = omega arith;
           passing = rw (add-one members, take-suc-set f members x m, inv .passing) (sym (keep-in p is₀ h e));
           failing = inv .failing ∙ sym (keep-out (λ j. not (p j)) is₀ h (ap not e));
-          still = still-more;
+          still = rest-next r r₀ i (inv .still);
           few = omega arith;
           rather = omega arith;
           rest-long = inv .rest-long;
@@ -149,7 +128,7 @@ module _ (p : ℕ → Bool) (r₀ f₀ : List ℕ) (n : ℕ) where
           within = omega arith;
           passing = inv .passing ∙ sym (keep-out p is₀ h e);
           failing = rw (add-one others, take-suc-set r others x o, inv .failing) (sym (keep-in (λ j. not (p j)) is₀ h (ap not e)));
-          still = drop-set-lt (i + 1) r others x (omega arith) ∙ still-more;
+          still = drop-set-lt (i + 1) r others x (omega arith) ∙ rest-next r r₀ i (inv .still);
           few = omega arith;
           rather = omega arith;
           rest-long = rw (length-set r others x) (inv .rest-long);

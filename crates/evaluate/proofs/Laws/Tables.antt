@@ -1,40 +1,28 @@
 -- The tables: their cells one after the other, and what a right database says.
-use mathlib.Core.Path.{_≡_, refl, sym, ap, _∙_}
-use mathlib.Core.Bool.{Bool, true, false, not, and-false, true≢false}
-use mathlib.Core.List.{List, [], _∷_}
+use mathlib.Core.Path.{_≡_, refl, sym, _∙_}
+use mathlib.Core.Bool.{Bool, true, false, not, true≢false}
+use mathlib.Core.List.{List, []}
 use Prim.Native.Nat.{ℕ, zero, suc, _+_, _-_, _*_, _<_, _≤_}
 use native.Mathlib.Omega.{arith}
 use native.Mathlib.Numerals.{add-one}
 use native.Mathlib.Nat.{add-zero, add-suc, mul-le-mul}
 use lib.IntN.{ℤ}
 use lib.Dec.{leb, eqb}
-use lib.ListN.{length, getD, take, drop, take-append-drop}
-use lib.Seq.{take-suc, take-all, split-at}
+use lib.ListN.{length, getD}
 use borrow.Author.Tests.{leb-true, eqb-true, eq-eqb, not-true, not-false}
-use Rattle.algebra.specs.Lists.{all, upto, Every}
-use Rattle.algebra.proofs.Lists.Every.{every-at, every-front, every-back, every-mapped, every-of}
+use Rattle.algebra.specs.Lists.{all, upto}
+use Rattle.algebra.proofs.Lists.Every.{every-at, every-mapped, every-of}
 use Rattle.algebra.proofs.Domains.Keys.{upto-all}
 use Rattle.plan.specs.Words.{tables, tableWidth}
 use Rattle.plan.specs.Items.{between}
 use Rattle.plan.specs.Promise.{Sized}
-use Rattle.plan.proofs.Laws.Loops.{all-append, all-of}
+use Rattle.plan.proofs.Laws.Loops.{all-of}
 use Rattle.plan.proofs.Laws.Numbered.{every-all, numbered-at}
 use Rattle.plan.proofs.Laws.Formed.{limited, between-high}
 use Rattle.plan.proofs.Laws.Header.{both, refuted}
 use Rattle.evaluate.specs.Cells.{value, inRange, rowIn, rowsIn}
 use Rattle.evaluate.specs.Database.{tableStart, databaseRight, databaseOf}
-
--- ---- the first elements of a list pass
-
-module _ {A : Type 0} (p : A → Bool) (xs : List A) (i : ℕ) (d : A) where
-  pub front-more : all p (take i xs) ≡ true → i < length xs → p (getD xs i d) ≡ true → all p (take (i + 1) xs) ≡ true
-  front-more e h q = rw (add-one i, take-suc xs i d h, all-append p (take i xs) (getD xs i d ∷ []), e, q)
-
-  pub front-fails : i < length xs → p (getD xs i d) ≡ false → false ≡ all p xs
-  front-fails h q = sym (ap (all p) (split-at xs i d h) ∙ all-append p (take i xs) (getD xs i d ∷ drop (suc i) xs) ∙ rw q (and-false (all p (take i xs))))
-
-  pub front-whole : all p (take i xs) ≡ true → length xs ≤ i → true ≡ all p xs
-  front-whole e h = sym (rw (take-all i xs h) at e)
+use Rattle.evaluate.proofs.Laws.Cells.{every-take, every-drop}
 
 -- ---- row counts and widths
 
@@ -112,17 +100,10 @@ module _ (ws counts : List ℕ) (cells : List ℤ) where
 
 -- ---- the rows of a table
 
--- rows of cells in range are in range
-every-taken : {P : ℤ → Type 0} (n : ℕ) (zs : List ℤ) → Every P zs → Every P (take n zs)
-every-taken n zs t = every-front (take n zs) (drop n zs) (rw (take-append-drop n zs) t)
-
-every-dropped : {P : ℤ → Type 0} (n : ℕ) (zs : List ℤ) → Every P zs → Every P (drop n zs)
-every-dropped n zs t = every-back (take n zs) (drop n zs) (rw (take-append-drop n zs) t)
-
-cells-ranged : (cells : List ℤ) → all (λ z. inRange (value z)) cells ≡ true → (from w count : ℕ) → all (all inRange) (rowsIn cells from w count) ≡ true
+pub cells-ranged : (cells : List ℤ) → all (λ z. inRange (value z)) cells ≡ true → (from w count : ℕ) → all (all inRange) (rowsIn cells from w count) ≡ true
 unfolding rowsIn
 cells-ranged cells e from w count =
-    all-of (all inRange) (every-mapped (λ i. rowIn cells (from + i * w) w) (every-of (λ i. all-of inRange (every-mapped value (every-taken w (drop (from + i * w) cells) (every-dropped (from + i * w) cells (every-all (λ z. inRange (value z)) cells e))))) (upto count)))
+    all-of (all inRange) (every-mapped (λ i. rowIn cells (from + i * w) w) (every-of (λ i. all-of inRange (every-mapped value (every-take w (every-drop (from + i * w) (every-all (λ z. inRange (value z)) cells e))))) (upto count)))
 
 module _ (ws counts : List ℕ) (cells : List ℤ) (right : Right ws counts cells) (t : ℕ) (h : t < tables ws) where
   pub table-there : tableStart ws counts t + getD counts t 0 * tableWidth ws t ≤ length cells

@@ -2,35 +2,36 @@
 use mathlib.Core.Path.{_∙_, _≡_, ap, refl}
 use mathlib.Core.Bool.{Bool, and-false, false, not, true}
 use mathlib.Core.List.{List, [], _++_, _∷_, append-nil, map}
-use Prim.Native.Nat.{ℕ, _*_, _+_, _<_, _^_, _≤_}
-use native.Mathlib.Nat.{mul-le-mul, mul-le-mul-right}
+use Prim.Native.Nat.{ℕ, _*_, _+_, _<_, _≤_}
 use native.Mathlib.Omega.{arith}
-use lib.Dec.{leb}
 use lib.IntN.{ℤ}
-use lib.ListN.{drop, getD, length, length-append, length-drop, length-map, take}
+use lib.ListN.{drop, getD, length, length-append, length-drop, take}
 use lib.Seq.{drop-cons, getD-take, length-take-le}
-use borrow.Author.Tests.{le-leb, not-false, not-true}
+use borrow.Author.Tests.{not-false, not-true}
 use Rattle.algebra.specs.Lists.{Every, all, keep, upto}
-use Rattle.algebra.specs.Value.{Row, null, sameRow}
+use Rattle.algebra.specs.Value.{Row, sameRow}
 use Rattle.algebra.specs.Plan as algebra
 use Rattle.algebra.specs.Operators.{aggregates, groupsBy, picked}
-use Rattle.algebra.proofs.Columns.Picked.{length-upto}
-use Rattle.algebra.proofs.Domains.Keys.{upto-all, upto-below}
-use Rattle.algebra.proofs.Lists.Every.{every-at, every-head, every-keep, every-map, every-mapped, every-of, every-unmapped}
-use Rattle.algebra.proofs.Lists.Keep.{map-append, map-cong}
+use Rattle.algebra.proofs.Domains.Keys.{upto-below}
+use Rattle.algebra.proofs.Lists.Every.{every-keep, every-map}
+use Rattle.algebra.proofs.Lists.Keep.{map-cong}
 use Rattle.algebra.proofs.Lists.Same.{same-refl}
-use Rattle.plan.proofs.Laws.Loops.{all-append, all-of, keep-few}
-use Rattle.plan.proofs.Laws.Numbered.{every-all}
+use Rattle.plan.proofs.Laws.Loops.{all-append, keep-few}
 use Rattle.evaluate.specs.declared.rows.Block.{Block}
 use Rattle.evaluate.specs.declared.made.Made.{Made}
 use Rattle.evaluate.specs.declared.made.Made.the-variants.{OutOfRange, Rows}
 use Rattle.evaluate.specs.Cells.{cell, cellsOf, inRange, rowsIn, written}
 use Rattle.evaluate.specs.Rows.{Before, Within, rowOf, rowsOf, source}
-use Rattle.evaluate.specs.Choice.{Below, There, aggregatesFrom, rowAt, sameKey}
-use Rattle.evaluate.specs.Made.{Makes, madeOf}
-use Rattle.evaluate.proofs.Laws.Cells.{row-of-part, written-behind}
+use Rattle.evaluate.specs.Choice.{Below, There, rowAt, sameKey}
+use Rattle.evaluate.specs.Made.{Makes}
+use Rattle.evaluate.proofs.Laws.Cells.{row-of-part, read-long}
 use Rattle.evaluate.proofs.Laws.Grouping.{Grouped, grouped-fails, grouped-more, grouped-size, groups-next}
-use Rattle.evaluate.proofs.Laws.Picking.{before-later, columns-size, picked-length, row-fits, row-kept}
+use Rattle.evaluate.proofs.Laws.Picking.{columns-size, picked-length, row-kept, picked-ranged}
+use Rattle.evaluate.proofs.Laws.Choices.{next-one, below-there}
+use Rattle.evaluate.proofs.Laws.Partners.{before-later, one-of, chosen-ranged}
+use Rattle.evaluate.proofs.Laws.Making.{makes-rows, makes-out}
+use Rattle.evaluate.proofs.Laws.Appending.{parts-behind}
+use Rattle.evaluate.proofs.Laws.Parts.{row-end}
 
 -- ---- the rows of a block by number
 
@@ -38,43 +39,18 @@ pub rows-numbered : (cells s : List ℤ) (b : Block) → rowsOf cells s b ≡ ma
 unfolding rowsIn
 rows-numbered cells s b = refl
 
-module _ (cells s : List ℤ) (b : Block) (ranged : all (all inRange) (rowsOf cells s b) ≡ true) where
-  row-ranged : (i : ℕ) → i < b .count → all inRange (rowOf cells s b i) ≡ true
-  row-ranged i h = upto-all (b .count) (every-unmapped (rowOf cells s b) (upto (b .count)) (every-all (all inRange) (map (rowOf cells s b) (upto (b .count))) (rw rows-numbered at ranged))) i h
-
-  pub chosen-ranged : {is : List ℕ} → Below (b .count) is → all (all inRange) (map (rowOf cells s b) is) ≡ true
-  chosen-ranged t = all-of (all inRange) (every-mapped (rowOf cells s b) (every-map row-ranged t))
-
-null-ranged : inRange null ≡ true
-unfolding inRange
-null-ranged = refl
-
--- columns of a row in range are in range
-pub picked-ranged : (ps : List ℕ) (r : Row) → all inRange r ≡ true → all inRange (picked ps r) ≡ true
-picked-ranged ps r h = all-of inRange (every-mapped (λ p. getD r p null) (every-of (λ p. every-at null null-ranged (every-all inRange r h) p) ps))
-
-pub aggregates-length : (ws : List ℕ) (j count : ℕ) (rs : List Row) → length (aggregates (aggregatesFrom ws j count) rs) ≡ count
-aggregates-length ws j count rs = rw (length-map, length-map, length-map) (length-upto count)
-
 -- ---- no keys: one group
-
-never : (k : ℕ) → OutOfRange ≡ Rows k → ⊥
-never k q = let z : _≡_ {A = ℕ} 0 1 = cc in omega arith
 
 module _ (limit to : ℕ) (s t : List ℤ) (gs : List algebra.Aggregate) (chosen rows : List Row) (same : chosen ≡ rows) (enough : 1 ≤ limit) {ok : Bool} (says : ok ≡ all inRange (aggregates gs chosen)) where
   pub one-fails : not ok ≡ true → Makes limit (aggregates gs rows ∷ []) to s t OutOfRange
-  unfolding madeOf
   one-fails h =
       let out : all inRange (aggregates gs rows) ≡ false = rw (← same, ← says) (not-true ok h) in
-      let fits : leb 1 limit ≡ true = le-leb 1 limit enough in
-      record { answer = rw (fits, out); stands = λ k q. absurd (never k q) }
+      makes-out limit (aggregates gs rows ∷ []) to s t enough (rw out)
 
   pub one-makes : not ok ≡ false → (ok ≡ true → t ≡ written s to (map cell (aggregates gs chosen))) → Makes limit (aggregates gs rows ∷ []) to s t (Rows 1)
-  unfolding madeOf
   one-makes h e =
       let fine : all inRange (aggregates gs rows) ≡ true = rw (← same, ← says) (not-false ok h) in
-      let fits : leb 1 limit ≡ true = le-leb 1 limit enough in
-      record { answer = rw (fits, fine); stands = λ k q. rw (append-nil (map cell (aggregates gs rows)), ← same) (e (not-false ok h)) }
+      makes-rows limit (aggregates gs rows ∷ []) to s t 1 refl enough (rw fine) (rw (append-nil (map cell (aggregates gs rows)), ← same) (e (not-false ok h)))
 
 -- all numbers chosen
 pub all-below : (count : ℕ) {is : List ℕ} → is ≡ upto count → Below count is
@@ -92,7 +68,7 @@ first-left rest left h g =
 
 -- the number of the first row left
 pub first-below : (rest : List ℕ) (left count : ℕ) {k : ℕ} → Below count (take left rest) → 0 < left → left ≤ length rest → k ≡ getD rest 0 0 → k < count
-first-below rest left count t h g e = rw e (every-head (rw (first-left rest left h g) at t))
+first-below rest left count t h g e = rw e (next-one rest left t 0 h g)
 
 -- what parting the rows left tells
 pub record Turned (ks : List ℕ) (gs : List algebra.Aggregate) (f : ℕ → Row) (count left others k : ℕ) (now members then : List ℕ) : Type 0 where
@@ -112,7 +88,7 @@ module _ (cells s₀ : List ℤ) (b : Block) (to : ℕ) (before : Before cells t
   module _ {s : List ℤ} {rest : List ℕ} {left groups : ℕ} (inv : Grouped (take keys ps) gs (rowOf cells s₀ b) (b .count) w to s₀ s rest left groups) (some : 0 < left) (space : to + b .count * w ≤ length s₀) where
     -- the group's place is within s
     pub place-fits : to + groups * w + w ≤ length s₀
-    place-fits = row-fits groups w (b .count) to (omega (arith, inv .room)) space refl
+    place-fits = omega (arith, row-end to groups (b .count) w (omega (arith, inv .room)))
 
     row-here : (i : ℕ) → i < b .count → rowOf cells s b i ≡ rowOf cells s₀ b i
     row-here i h = row-kept cells s₀ b to before (cellsOf (inv .rows)) (inv .stands) i h (omega (arith, grouped-size (take keys ps) gs (rowOf cells s₀ b) (b .count) w to s₀ inv, place-fits))
@@ -123,10 +99,10 @@ module _ (cells s₀ : List ℤ) (b : Block) (to : ℕ) (before : Before cells t
       part-row i h = rw is (row-of-part (source cells s b) (b .from) (b .width) (b .count) i h ∙ row-here i h)
 
       part-long : Within cells s b → length part ≡ b .count * b .width
-      part-long h = rw is (length-take-le (b .count * b .width) (drop (b .from) (source cells s b)) (omega (arith, length-drop (b .from) (source cells s b))))
+      part-long h = read-long (source cells s b) (b .from) (b .count * b .width) is h
 
       pub part-there : Within cells s b → (is : List ℕ) → Below (b .count) is → There part (b .width) is
-      part-there h js t = every-map (λ i (l : i < b .count). omega (arith, part-long h, mul-le-mul-right (b .width) l)) t
+      part-there h js t = below-there part (b .width) (omega (arith, part-long h)) t
 
       pub turned : {k n : ℕ} → k ≡ getD rest 0 0 → left ≤ length rest → n ≡ keys → (members others : ℕ) (found rest′ : List ℕ) → take members found ≡ keep (sameKey part (b .width) (take n ps) k) (take left rest) → take others rest′ ≡ keep (λ i. not (sameKey part (b .width) (take n ps) k i)) (take left rest) → others ≤ left → length rest′ ≡ length rest
           → Turned (take keys ps) gs (rowOf cells s₀ b) (b .count) left others k (take left rest) (take members found) (take others rest′)
@@ -167,7 +143,7 @@ module _ (cells s₀ : List ℤ) (b : Block) (to : ℕ) (before : Before cells t
 
       row-after : (i : ℕ) → i < b .count → rowOf cells s₁ b i ≡ rowOf cells s₀ b i
       row-after i h =
-          row-kept cells s b at (rw place (before-later cells b to before (groups * w))) (map cell (picked (take keys ps) (rowOf cells s₀ b k))) key-written i h (omega (arith, key-size, place-fits)) ∙ row-here i h
+          row-kept cells s b at (rw place (before-later cells to (to + groups * w) b before (omega arith))) (map cell (picked (take keys ps) (rowOf cells s₀ b k))) key-written i h (omega (arith, key-size, place-fits)) ∙ row-here i h
 
       rows-after : {is : List ℕ} → Below (b .count) is → map (rowOf cells s₁ b) is ≡ map (rowOf cells s₀ b) is
       rows-after t = map-cong (rowOf cells s₁ b) (rowOf cells s₀ b) (every-map row-after t)
@@ -202,16 +178,17 @@ module _ (cells s₀ : List ℤ) (b : Block) (to : ℕ) (before : Before cells t
             wide = length-append key values ∙ ap (λ (x : ℕ). x + length values) (picked-length ps (rowOf cells s₀ b k) keys long) ∙ size (map (rowOf cells s₀ b) members)
 
             fine : all inRange (key ++ values) ≡ true
-            fine = rw (all-append inRange key values, picked-ranged (take keys ps) (rowOf cells s₀ b k) (row-ranged cells s₀ b ranged k lower), ← says₀, not-false ok h)
+            fine = rw (all-append inRange key values, picked-ranged (take keys ps) (rowOf cells s₀ b k) (one-of (source cells s₀ b) (b .from) (b .width) (b .count) k (all inRange) ranged lower), ← says₀, not-false ok h)
 
-            behind : written (written s at (map cell key)) (at + length (map cell key)) (map cell values) ≡ written s at (map cell key ++ map cell values)
-            behind = written-behind s at (map cell key) (map cell values) (omega (arith, key-size, length-map values cell, size (map (rowOf cells s₀ b) members), place-fits))
-
-            told : s₂ ≡ written s₁ (at + length (map cell key)) (map cell values)
-            told = rw (key-size, ← q, ← rows-after (turn .those)) (e (not-false ok h))
+            told : s₂ ≡ written s₁ (at + keys) (map cell values)
+            told = rw (← q, ← rows-after (turn .those)) (e (not-false ok h))
 
             stands : s₂ ≡ written s (to + groups * w) (map cell (key ++ values))
-            stands = rw (← place, map-append cell key values, ← behind) (rw key-written at told)
+            stands =
+                rw (← place)
+                (told
+                ∙ ap (λ (l : List ℤ). written l (at + keys) (map cell values)) key-written
+                ∙ parts-behind s at keys key values (picked-length ps (rowOf cells s₀ b k) keys long) (omega (arith, size (map (rowOf cells s₀ b) members), place-fits)))
 
 -- the keys and the rows as the caller says them
 pub keyed-makes : (cells s₀ : List ℤ) (b : Block) (gs : List algebra.Aggregate) {ks ks′ : List ℕ} {limit to : ℕ} {t : List ℤ} {r : Made} → ks ≡ ks′ → Makes limit (groupsBy ks gs (map (rowOf cells s₀ b) (upto (b .count)))) to s₀ t r → Makes limit (groupsBy ks′ gs (rowsOf cells s₀ b)) to s₀ t r
@@ -221,6 +198,3 @@ keyed-makes cells s₀ b gs e m = rw (rows-numbered cells s₀ b, ← e) m
 
 pub below-more : {count limit most : ℕ} {is : List ℕ} → count ≤ limit → limit ≤ most → Below count is → Below most is
 below-more g h t = every-map (λ i l. omega arith) t
-
-pub product-fits : {g w : ℕ} → g ≤ 4096 → w ≤ 64 → g * w < 2 ^ 64
-product-fits h k = omega (arith, mul-le-mul h k)

@@ -8,7 +8,7 @@ use lib.IntN.{ℤ, pos}
 use lib.ListN.{length, getD, take, drop, set, replicate, length-drop, length-replicate, drop-of-length-le, replicate-append-replicate, List·getD-append}
 use lib.Seq.{length-take-le, take-suc, getD-drop, getD-take}
 use Rattle.evaluate.specs.Cells.{written}
-use Rattle.evaluate.proofs.Laws.Cells.{written-more, written-nothing}
+use Rattle.evaluate.proofs.Laws.Cells.{written-more}
 
 -- ---- zeros from the front
 
@@ -31,9 +31,6 @@ zeros-all n v d s h g e =
 -- i cells of t from place at on stand from place to on
 abbrev pub Copied : List ℤ → ℕ → List ℤ → ℕ → ℕ → List ℤ → Type 0
 Copied t at s₀ to i s = s ≡ written s₀ to (take i (drop at t))
-
-pub copied-none : (t : List ℤ) (at : ℕ) (s : List ℤ) (to : ℕ) → Copied t at s to 0 s
-copied-none t at s to = sym (written-nothing s to)
 
 pub copied-more : (t : List ℤ) (at : ℕ) (s₀ : List ℤ) (to i : ℕ) (s : List ℤ) → at + i < length t → to + i < length s₀ → Copied t at s₀ to i s
     → (z : ℤ) → z ≡ getD t (at + i) (pos 0) → Copied t at s₀ to (i + 1) (set s (to + i) z)
@@ -60,9 +57,6 @@ copied-before t at s₀ to i s k e h g =
     ∙ getD-take to s₀ k (pos 0) h
 
 -- ---- the same cell, one a turn
-
-pub filled-none : (s : List ℤ) (to : ℕ) (v : ℤ) → s ≡ written s to (replicate 0 v)
-filled-none s to v = sym (written-nothing s to)
 
 pub filled-more : (s₀ : List ℤ) (to i : ℕ) (v : ℤ) (s : List ℤ) → to + i < length s₀ → s ≡ written s₀ to (replicate i v) → set s (to + i) v ≡ written s₀ to (replicate (i + 1) v)
 filled-more s₀ to i v s h e =

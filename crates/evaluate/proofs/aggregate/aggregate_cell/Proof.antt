@@ -1,9 +1,10 @@
 use borrow.Author.Needs.{needs}
 use mathlib.Core.Path.{ap, _∙_}
 use lib.ListN.{take}
+use mir.Syntax.{w64}
+use mir.ValLaws.{toZ-ofZ}
 use Rattle.evaluate.specs.Cells.{value}
 use Rattle.evaluate.specs.Choice.{chosen}
-use Rattle.evaluate.proofs.Laws.Sums.{trip}
 use Rattle.evaluate.proofs.Laws.Aggregates.{count-item, sum-item, least-item, greatest-item, counted-rows}
 use Rattle.evaluate.proofs.aggregate.aggregate_cell.Statement.{statement}
 use Rattle.evaluate.proofs.aggregate.aggregate_cell.Tie as tie
@@ -52,21 +53,21 @@ returns-2 c =
     let m = c .before .before .before in
     let a = m .before .before .before .before .args in
     let r = c .sum-of in
-    sum-item _ (chosen (a .rows .now) (a .width) (take (a .n) (a .found .now))) (m .before .tag .ensures) _ (c .before .wide .ensures ∙ c .before .before .position .ensures) (m .match .keys2) (ap value (trip (r .result) (record { sfits = r .ok })) ∙ r .ensures)
+    sum-item _ (chosen (a .rows .now) (a .width) (take (a .n) (a .found .now))) (m .before .tag .ensures) _ (c .before .wide .ensures ∙ c .before .before .position .ensures) (m .match .keys2) (ap value (toZ-ofZ w64 (r .result) (record { sfits = r .ok })) ∙ r .ensures)
 
 returns-3 : tie.Need-returns-3
 returns-3 c =
     let m = c .before .before .before in
     let a = m .before .before .before .before .args in
     let r = c .best-of in
-    least-item _ (chosen (a .rows .now) (a .width) (take (a .n) (a .found .now))) (m .before .tag .ensures) _ (c .before .wide2 .ensures ∙ c .before .before .position2 .ensures) (m .match .keys3) (ap value (trip (r .result) (record { sfits = r .ok })) ∙ r .ensures)
+    least-item _ (chosen (a .rows .now) (a .width) (take (a .n) (a .found .now))) (m .before .tag .ensures) _ (c .before .wide2 .ensures ∙ c .before .before .position2 .ensures) (m .match .keys3) (ap value (toZ-ofZ w64 (r .result) (record { sfits = r .ok })) ∙ r .ensures)
 
 returns-4 : tie.Need-returns-4
 returns-4 c =
     let m = c .before .before .before in
     let a = m .before .before .before .before .args in
     let r = c .best-of2 in
-    greatest-item _ (chosen (a .rows .now) (a .width) (take (a .n) (a .found .now))) (m .before .tag .ensures) _ (c .before .wide3 .ensures ∙ c .before .before .position3 .ensures) (m .match .rest .0 .0 .1) (m .match .rest .0 .1) (m .match .rest .1) (ap value (trip (r .result) (record { sfits = r .ok })) ∙ r .ensures)
+    greatest-item _ (chosen (a .rows .now) (a .width) (take (a .n) (a .found .now))) (m .before .tag .ensures) _ (c .before .wide3 .ensures ∙ c .before .before .position3 .ensures) (m .match .rest .0 .0 .1) (m .match .rest .0 .1) (m .match .rest .1) (ap value (toZ-ofZ w64 (r .result) (record { sfits = r .ok })) ∙ r .ensures)
 
 pub aggregate-cell-spec : {M : Type 1} → statement M
 aggregate-cell-spec =

@@ -3,12 +3,14 @@ use mathlib.Core.Path.{_≡_, ap, _∙_}
 use Prim.Native.Nat.{_-_, _≤_, _<_}
 use native.Mathlib.Omega.{arith}
 use lib.ListN.{take, drop}
+use mir.ValLaws.{toZ-ofZ}
 use mir.Syntax.{w64}
 use mir.Val.{toZ, ofZ}
 use Rattle.algebra.specs.Operators.{best, columnOf}
 use Rattle.evaluate.specs.Cells.{value}
 use Rattle.evaluate.specs.Choice.{chosen, inOrder}
-use Rattle.evaluate.proofs.Laws.Sums.{trip, chosen-inside, best-past, best-none, best-turn, best-end}
+use Rattle.evaluate.proofs.Laws.Choices.{chosen-inside}
+use Rattle.evaluate.proofs.Laws.Sums.{best-past, best-none, best-turn, best-end}
 use Rattle.evaluate.proofs.aggregate.best_of.Statement.{statement}
 use Rattle.evaluate.proofs.aggregate.best_of.Tie as tie
 
@@ -79,7 +81,7 @@ loop-again c =
     let a = d .args in
     let l = c .before .before .before .before .before .loop in
     let r = c .better-cell in
-    (omega arith, l .inv .1, best-turn (a .rows .now) (a .width) (a .p) (a .found .now) (a .n) (d .pre .0) (l .i) (d .pre .1) (l .inv .1) (c .before .before .before .before .loop-test .taken) (l .inv .0) (c .before .before .index .ensures) (inOrder (a .least)) (toZ w64 (ofZ w64 (r .result))) _ _ (ap value (trip (r .result) (record { sfits = r .ok })) ∙ r .ensures) (trip _ (record { sfits = c .before .better-cell-arg .given })) (l .inv .2))
+    (omega arith, l .inv .1, best-turn (a .rows .now) (a .width) (a .p) (a .found .now) (a .n) (d .pre .0) (l .i) (d .pre .1) (l .inv .1) (c .before .before .before .before .loop-test .taken) (l .inv .0) (c .before .before .index .ensures) (inOrder (a .least)) (toZ w64 (ofZ w64 (r .result))) _ _ (ap value (toZ-ofZ w64 (r .result) (record { sfits = r .ok })) ∙ r .ensures) (toZ-ofZ w64 _ (record { sfits = c .before .better-cell-arg .given })) (l .inv .2))
 
 returns-2 : tie.Need-returns-2 Inv-loop μ-loop
 returns-2 c =

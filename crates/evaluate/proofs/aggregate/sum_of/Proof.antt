@@ -7,7 +7,8 @@ use mir.Syntax.{w64}
 use mir.Val.{ofZ}
 use Rattle.algebra.specs.Operators.{addUp, columnOf}
 use Rattle.evaluate.specs.Choice.{chosen}
-use Rattle.evaluate.proofs.Laws.Sums.{chosen-inside, sum-past, sum-none, sum-add-fits, sum-turn, sum-null, sum-end}
+use Rattle.evaluate.proofs.Laws.Choices.{chosen-inside}
+use Rattle.evaluate.proofs.Laws.Sums.{sum-past, sum-none, sum-add-fits, sum-turn, sum-null, sum-end}
 use Rattle.evaluate.proofs.aggregate.sum_of.Statement.{statement}
 use Rattle.evaluate.proofs.aggregate.sum_of.Tie as tie
 

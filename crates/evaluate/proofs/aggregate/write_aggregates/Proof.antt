@@ -5,16 +5,18 @@ use mathlib.Core.List.{map}
 use Prim.Native.Nat.{_-_, _≤_}
 use native.Mathlib.Omega.{arith}
 use lib.ListN.{length, take, length-set}
+use mir.Syntax.{w64}
+use mir.ValLaws.{toZ-ofZ}
 use borrow.Author.Tests.{not-true, not-false}
 use Rattle.algebra.specs.Lists.{all}
 use Rattle.algebra.specs.Operators.{aggregates}
 use Rattle.evaluate.specs.Cells.{cell, inRange, written}
 use Rattle.evaluate.specs.Rows.{rowOf}
 use Rattle.evaluate.specs.Choice.{aggregatesFrom}
+use Rattle.evaluate.proofs.Laws.Sorted.{item-passes}
 use Rattle.evaluate.proofs.Laws.Cells.{written-nothing}
 use Rattle.evaluate.proofs.Laws.Partners.{before-within}
-use Rattle.evaluate.proofs.Laws.Sums.{trip}
-use Rattle.evaluate.proofs.Laws.Aggregates.{item-passes, chosen-there, turn-ranged, turn-entry, range-fails, range-more, row-written}
+use Rattle.evaluate.proofs.Laws.Aggregates.{chosen-there, turn-ranged, turn-entry, range-fails, range-more, row-written}
 use Rattle.evaluate.proofs.aggregate.write_aggregates.Statement.{statement}
 use Rattle.evaluate.proofs.aggregate.write_aggregates.Tie as tie
 
@@ -68,7 +70,7 @@ returns c =
     let l = c .before .before .before .before .before .before .loop in
     let r = c .before .before .aggregate-cell in
     let is = take (a .n) (a .found .now) in
-    let e = turn-entry (a .words .now) (a .j) (a .cells .now) (a .scratch .now) (a .b) (a .to) is (d .pre .1 .2) (d .pre .1 .3) (l .i) (l .scratch) _ (omega arith) (l .inv .3) (c .before .before .before .rows .ensures) (r .result) _ (r .ensures) (trip (r .result) (record { sfits = r .ok })) in
+    let e = turn-entry (a .words .now) (a .j) (a .cells .now) (a .scratch .now) (a .b) (a .to) is (d .pre .1 .2) (d .pre .1 .3) (l .i) (l .scratch) _ (omega arith) (l .inv .3) (c .before .before .before .rows .ensures) (r .result) _ (r .ensures) (toZ-ofZ w64 (r .result) (record { sfits = r .ok })) in
     (range-fails (a .words .now) (a .j) (map (rowOf (a .cells .now) (a .scratch .now) (a .b)) is) (l .i) (a .count) (ap inRange (sym e) ∙ sym (c .before .in-range .ensures) ∙ not-true _ (c .if1 .taken)) (omega arith), λ q. absurd (false≢true q))
 
 wide-requires : tie.Need-wide-requires Inv-loop μ-loop
@@ -97,7 +99,7 @@ loop-again c =
     let r = c .before .before .before .aggregate-cell in
     let is = take (a .n) (a .found .now) in
     let rs = map (rowOf (a .cells .now) (a .scratch .now) (a .b)) is in
-    let e = turn-entry (a .words .now) (a .j) (a .cells .now) (a .scratch .now) (a .b) (a .to) is (d .pre .1 .2) (d .pre .1 .3) (l .i) (l .scratch) _ (omega arith) (l .inv .3) (c .before .before .before .before .rows .ensures) (r .result) _ (r .ensures) (trip (r .result) (record { sfits = r .ok })) in (
+    let e = turn-entry (a .words .now) (a .j) (a .cells .now) (a .scratch .now) (a .b) (a .to) is (d .pre .1 .2) (d .pre .1 .3) (l .i) (l .scratch) _ (omega arith) (l .inv .3) (c .before .before .before .before .rows .ensures) (r .result) _ (r .ensures) (toZ-ofZ w64 (r .result) (record { sfits = r .ok })) in (
       omega arith,
       simp length-set (l .inv .1),
       range-more (a .words .now) (a .j) rs (l .i) (l .inv .2) (ap inRange (sym e) ∙ sym (c .before .before .in-range .ensures) ∙ not-false _ (c .before .if1 .left)),

@@ -1,13 +1,14 @@
-use mir.Syntax.{w64}
-use mir.ValLaws.{toZ-ofZ}
-use Rattle.evaluate.proofs.Laws.Ranges.{one-fails, one-passes, all-pass}
-use Rattle.algebra.specs.Lists.{all}
-use Rattle.evaluate.specs.Cells.{value, inRange}
 use mathlib.Core.Bool.{true}
 use mathlib.Core.Path.{_≡_, refl}
 use Prim.Native.Nat.{_-_, _≤_}
 use native.Mathlib.Omega.{arith}
 use lib.ListN.{length, take}
+use lib.IntN.{pos}
+use mir.Syntax.{w64}
+use mir.ValLaws.{toZ-ofZ}
+use Rattle.algebra.specs.Lists.{all}
+use Rattle.evaluate.specs.Cells.{value, inRange}
+use Rattle.evaluate.proofs.Laws.Ranges.{one-fails, one-passes, front-whole}
 use borrow.Author.Needs.{needs}
 use Rattle.evaluate.proofs.cells.all_in_range.Statement.{statement}
 use Rattle.evaluate.proofs.cells.all_in_range.Tie as tie
@@ -49,7 +50,7 @@ loop-again c =
 returns-2 : tie.Need-returns-2 Inv-loop μ-loop
 returns-2 c =
     let l = c .before .loop in
-    all-pass (λ z. inRange (value z)) (c .before .before .args .cells .now) (l .i) (omega arith) (l .inv .1)
+    front-whole (λ z. inRange (value z)) (c .before .before .args .cells .now) (l .i) (pos 0) (l .inv .1) (omega arith)
 
 pub all-in-range-spec : {M : Type 1} → statement M
 all-in-range-spec =

@@ -1,10 +1,11 @@
-use mir.Syntax.{w64}
-use mir.ValLaws.{toZ-ofZ}
-use Rattle.evaluate.proofs.Laws.Written.{Copied, copied-none, copied-more, copied-all, copied-before}
-use mathlib.Core.Path.{_≡_, refl, _∙_}
+use mathlib.Core.Path.{_≡_, refl, _∙_, sym}
 use Prim.Native.Nat.{_+_, _-_, _≤_}
 use native.Mathlib.Omega.{arith}
 use lib.ListN.{length, length-set}
+use mir.Syntax.{w64}
+use mir.ValLaws.{toZ-ofZ}
+use Rattle.evaluate.proofs.Laws.Written.{Copied, copied-more, copied-all, copied-before}
+use Rattle.evaluate.proofs.Laws.Cells.{written-nothing}
 use borrow.Author.Needs.{needs}
 use Rattle.evaluate.proofs.cells.copy_within.Statement.{statement}
 use Rattle.evaluate.proofs.cells.copy_within.Tie as tie
@@ -16,7 +17,7 @@ abbrev μ-loop : tie.MeasureT-loop
 μ-loop s₀ at to count i₀ s i = count - i
 
 loop-holds : tie.Need-loop-holds Inv-loop μ-loop
-loop-holds c = (search needs, refl, copied-none (c .args .s .now) (c .args .at) _ (c .args .to))
+loop-holds c = (search needs, refl, sym (written-nothing _ (c .args .to)))
 
 add-s : tie.Need-add-s Inv-loop μ-loop
 add-s c = search needs

@@ -1,9 +1,10 @@
-use Rattle.evaluate.specs.Cells.{nullCell, written}
-use Rattle.evaluate.proofs.Laws.Written.{filled-none, filled-more, filled-all}
-use mathlib.Core.Path.{_≡_, refl}
+use mathlib.Core.Path.{_≡_, refl, sym}
 use Prim.Native.Nat.{_-_, _≤_}
 use native.Mathlib.Omega.{arith}
 use lib.ListN.{length, replicate, length-set}
+use Rattle.evaluate.specs.Cells.{nullCell, written}
+use Rattle.evaluate.proofs.Laws.Written.{filled-more, filled-all}
+use Rattle.evaluate.proofs.Laws.Cells.{written-nothing}
 use borrow.Author.Needs.{needs}
 use Rattle.evaluate.proofs.cells.write_nulls.Statement.{statement}
 use Rattle.evaluate.proofs.cells.write_nulls.Tie as tie
@@ -15,7 +16,7 @@ abbrev μ-loop : tie.MeasureT-loop
 μ-loop s₀ to count i₀ s i = count - i
 
 loop-holds : tie.Need-loop-holds Inv-loop μ-loop
-loop-holds c = (search needs, refl, filled-none _ (c .args .to) nullCell)
+loop-holds c = (search needs, refl, sym (written-nothing _ (c .args .to)))
 
 add-s : tie.Need-add-s Inv-loop μ-loop
 add-s c = search needs

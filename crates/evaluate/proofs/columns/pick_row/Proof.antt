@@ -1,5 +1,5 @@
 use borrow.Author.Needs.{needs}
-use mathlib.Core.Path.{_≡_, refl}
+use mathlib.Core.Path.{_≡_, refl, sym}
 use mathlib.Core.List.{map}
 use Prim.Native.Nat.{_-_, _≤_}
 use native.Mathlib.Omega.{arith}
@@ -9,7 +9,9 @@ use mir.ValLaws.{toZ-ofZ}
 use Rattle.algebra.specs.Operators.{picked}
 use Rattle.evaluate.specs.Cells.{cell, written}
 use Rattle.evaluate.specs.Rows.{rowOf}
-use Rattle.evaluate.proofs.Laws.Picking.{column-end, column-more, column-none, column-read, columns-size, row-kept, within}
+use Rattle.evaluate.proofs.Laws.Partners.{before-within}
+use Rattle.evaluate.proofs.Laws.Cells.{written-nothing}
+use Rattle.evaluate.proofs.Laws.Picking.{column-end, column-more, column-read, columns-size, row-kept}
 use Rattle.evaluate.proofs.columns.pick_row.Statement.{statement}
 use Rattle.evaluate.proofs.columns.pick_row.Tie as tie
 
@@ -20,13 +22,13 @@ abbrev μ-loop : tie.MeasureT-loop
 μ-loop cells b i positions count to scratch₀ k₀ scratch k = count - k
 
 loop-holds : tie.Need-loop-holds Inv-loop μ-loop
-loop-holds c = (search needs, refl, column-none _ _)
+loop-holds c = (search needs, refl, sym (written-nothing _ _))
 
 row-requires : tie.Need-row-requires Inv-loop μ-loop
 row-requires c κs =
     let a = c .before .before .before .before .args in
     let p = c .before .before .before .before .pre in
-    (within (a .cells .now) (a .b) (a .to) (p .0) (c .before .before .loop .scratch) (omega arith), search needs, search needs, search needs)
+    (before-within (a .cells .now) (c .before .before .loop .scratch) (a .to) (a .b) (p .0) (omega arith), search needs, search needs, search needs)
 
 mul-wide : tie.Need-mul-wide Inv-loop μ-loop
 mul-wide c = search needs

@@ -8,7 +8,9 @@ use lib.ListN.{length, take}
 use Rattle.algebra.specs.Operators.{picked}
 use Rattle.evaluate.specs.Cells.{cellsOf, rowsIn, written}
 use Rattle.evaluate.specs.Rows.{source}
-use Rattle.evaluate.proofs.Laws.Picking.{before-later, picked-end, picked-next, picked-none, picked-size, row-fits, row-kept}
+use Rattle.evaluate.proofs.Laws.Partners.{before-later}
+use Rattle.evaluate.proofs.Laws.Parts.{row-end}
+use Rattle.evaluate.proofs.Laws.Picking.{picked-end, picked-next, picked-none, picked-size, row-kept}
 use Rattle.evaluate.proofs.columns.pick_rows.Statement.{statement}
 use Rattle.evaluate.proofs.columns.pick_rows.Tie as tie
 
@@ -40,7 +42,7 @@ pick-row-requires : tie.Need-pick-row-requires Inv-loop μ-loop
 pick-row-requires c κs =
     let a = c .before .before .before .before .before .args in
     let p = c .before .before .before .before .before .pre in
-    (before-later (a .cells .now) (a .b) (a .to) (p .0) _, search needs, search needs, search needs, search needs, row-fits (c .before .before .before .loop .i) (a .count) (a .b .count) (a .to) (c .before .if1 .taken) (p .5) (c .before .before .before .loop .inv .1))
+    (before-later (a .cells .now) (a .to) _ (a .b) (p .0) (omega arith), search needs, search needs, search needs, search needs, omega (arith, row-end (a .to) (c .before .before .before .loop .i) (a .b .count) (a .count) (c .before .if1 .taken), p .5, c .before .before .before .loop .inv .1))
 
 add-i : tie.Need-add-i Inv-loop μ-loop
 add-i c = search needs

@@ -5,9 +5,9 @@ use native.Mathlib.Omega.{arith}
 use lib.Dec.{leb}
 use lib.ListN.{length, take}
 use borrow.Author.Tests.{le-leb, lt-leb}
-use borrow.Author.Needs.{needs}
 use Rattle.algebra.specs.Lists.{all}
-use Rattle.evaluate.proofs.Laws.Tables.{front-more, front-fails, front-whole}
+use Rattle.evaluate.proofs.Laws.Ranges.{front-more, front-fails, front-whole}
+use borrow.Author.Needs.{needs}
 use Rattle.evaluate.proofs.database.counts_right.Statement.{statement}
 use Rattle.evaluate.proofs.database.counts_right.Tie as tie
 

@@ -1,6 +1,7 @@
 use borrow.Author.Needs.{needs}
 use Rattle.evaluate.specs.Choice.{aggregatesFrom}
-use Rattle.evaluate.proofs.Laws.Turning.{all-below, all-rows, chosen-ranged, one-fails, one-makes}
+use Rattle.evaluate.proofs.Laws.Partners.{chosen-ranged}
+use Rattle.evaluate.proofs.Laws.Turning.{all-below, all-rows, one-fails, one-makes}
 use Rattle.evaluate.proofs.group.group_all.Statement.{statement}
 use Rattle.evaluate.proofs.group.group_all.Tie as tie
 

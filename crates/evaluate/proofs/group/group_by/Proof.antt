@@ -8,9 +8,11 @@ use Rattle.algebra.specs.Lists.{done, more}
 use Rattle.algebra.proofs.Lists.Every.{every-head}
 use Rattle.evaluate.specs.Rows.{rowOf}
 use Rattle.evaluate.specs.Choice.{aggregatesFrom}
+use Rattle.evaluate.proofs.Laws.Parts.{row-small}
+use Rattle.evaluate.proofs.Laws.Partners.{before-within, before-later}
+use Rattle.evaluate.proofs.Laws.Aggregates.{aggregates-length}
 use Rattle.evaluate.proofs.Laws.Grouping.{Grouped, grouped-makes, grouped-none}
-use Rattle.evaluate.proofs.Laws.Picking.{before-later, within}
-use Rattle.evaluate.proofs.Laws.Turning.{aggregates-length, below-more, first-below, keyed-makes, part-there, place-fits, place-is, product-fits, ranged-after, turned, turned-fails, turned-next}
+use Rattle.evaluate.proofs.Laws.Turning.{below-more, first-below, keyed-makes, part-there, place-fits, place-is, ranged-after, turned, turned-fails, turned-next}
 use Rattle.evaluate.proofs.group.group_by.Statement.{statement}
 use Rattle.evaluate.proofs.group.group_by.Tie as tie
 
@@ -60,7 +62,7 @@ rows-requires c κs =
     let a = start .args in
     let p = start .pre in
     let l = round .loop in
-    (within (a .cells .now) (a .b) (a .to) (p .1 .0) (l .scratch) (omega (arith, p .0 .3, l .inv .1)), search needs, search needs)
+    (before-within (a .cells .now) (l .scratch) (a .to) (a .b) (p .1 .0) (omega (arith, p .0 .3, l .inv .1)), search needs, search needs)
 
 slice-aggregate-split : tie.Need-slice-aggregate-split Inv-loop μ-loop
 slice-aggregate-split c = search needs
@@ -81,7 +83,7 @@ split-requires c κs =
     let long : l .left ≤ length (l .rest) = omega (arith, l .inv .0 .room, l .inv .3, p .0 .4, p .0 .5) in
     let first = first-below (l .rest) (l .left) (a .b .count) (l .inv .0 .below) (c .before .before .before .before .before .before .before .loop-test .taken) long (c .before .before .before .before .before .before .index .ensures) in
     let ps = round .before .before .before .before .before .before .before .read-positions .last .1 .1 .1 .0 in
-    let inside = within (a .cells .now) (a .b) (a .to) (p .1 .0) (l .scratch) (omega (arith, p .0 .3, l .inv .1)) in
+    let inside = before-within (a .cells .now) (l .scratch) (a .to) (a .b) (p .1 .0) (omega (arith, p .0 .3, l .inv .1)) in
     let there = part-there (a .cells .now) (a .scratch .now) (a .b) (a .to) (p .1 .0) ps (a .keys) _ _ (l .inv .0) (c .before .before .before .before .before .before .before .loop-test .taken) (p .0 .3) (c .before .before .before .before .rows .ensures) inside in (
       (omega (arith, c .before .before .wide3 .ensures, l .inv .4, p .0 .1), search needs, omega (arith, first, p .0 .4, p .0 .5), every-head (there (_ ∷ []) (more first done))),
       (long, omega (arith, l .inv .0 .room, l .inv .2, p .1 .3, p .0 .4, p .0 .5), there _ (l .inv .0 .below), below-more (p .0 .4) (p .0 .5) (l .inv .0 .below)),
@@ -97,7 +99,7 @@ mul-at c =
     let a = start .args in
     let p = start .pre in
     let l = round .loop in
-    record { fits = product-fits (omega (arith, c .wide4 .ensures, l .inv .0 .room, p .0 .4, p .0 .5)) (omega (arith, round .before .before .wide .ensures, round .before .wide2 .ensures, p .0 .1)) }
+    record { fits = row-small _ _ (omega (arith, c .wide4 .ensures, l .inv .0 .room, p .0 .4, p .0 .5)) (omega (arith, round .before .before .wide .ensures, round .before .wide2 .ensures, p .0 .1)) }
 
 add-at : tie.Need-add-at Inv-loop μ-loop
 add-at c =
@@ -130,7 +132,7 @@ pick-row-requires c κs =
     let place = place-is (a .to) (c .before .before .before .wide4 .ensures) (round .before .before .wide .ensures) (round .before .wide2 .ensures) in
     let ps = round .before .before .before .before .before .before .before .read-positions .last .1 .1 .1 .0 in
     let fits = place-fits (a .cells .now) (a .scratch .now) (a .b) (a .to) (p .1 .0) ps (a .keys) _ _ (l .inv .0) (parted .before .before .before .before .before .before .before .before .loop-test .taken) (p .0 .3) in
-    (before-later (a .cells .now) (a .b) (a .to) (p .1 .0) _, first, search needs, search needs, omega (arith, c .before .wide5 .ensures, l .inv .4, p .0 .1), omega (arith, c .before .wide5 .ensures, place, fits, l .inv .1))
+    (before-later (a .cells .now) (a .to) _ (a .b) (p .1 .0) (omega arith), first, search needs, search needs, omega (arith, c .before .wide5 .ensures, l .inv .4, p .0 .1), omega (arith, c .before .wide5 .ensures, place, fits, l .inv .1))
 
 add-write-aggregates : tie.Need-add-write-aggregates Inv-loop μ-loop
 add-write-aggregates c =
@@ -176,7 +178,7 @@ write-aggregates-requires c κs =
         omega (arith, parted .split .ensures .2, parted .split .kept .1 .1 .1 .1 .1 .1 .1 .0, l .inv .2, p .1 .3, l .inv .0 .room, p .0 .4, p .0 .5),
         omega (arith, parted .split .ensures .2, l .inv .0 .room, p .0 .4, p .0 .5),
         turn .those,
-        before-later (a .cells .now) (a .b) _ (before-later (a .cells .now) (a .b) (a .to) (p .1 .0) _) _,
+        before-later (a .cells .now) (a .to) _ (a .b) (p .1 .0) (omega arith),
         search needs,
         search needs,
         ranged-after (a .cells .now) (a .scratch .now) (a .b) (a .to) (p .1 .0) ps (a .keys) _ _ (l .inv .0) (parted .before .before .before .before .before .before .before .before .loop-test .taken) (p .0 .3) first wide narrow (l .inv .1) place (key .before .before .wide5 .ensures) (key .pick-row .ensures) (p .1 .2) (turn .those),

@@ -1,16 +1,17 @@
-use Rattle.evaluate.proofs.Laws.Appending.{few-cells}
-use Rattle.evaluate.proofs.Laws.Cells.{written-nothing}
-use Rattle.evaluate.proofs.Laws.Partners.{before-later}
-use Rattle.evaluate.proofs.Laws.Selecting.{next-one, copied-more}
 use mathlib.Core.Path.{_≡_, refl, sym, ap, _∙_}
 use mathlib.Core.List.{map}
 use Prim.Native.Nat.{ℕ, _+_, _-_, _*_, _≤_}
 use native.Mathlib.Omega.{arith}
 use native.Mathlib.Nat.{mul-le-mul-right}
 use lib.ListN.{length, take}
-use borrow.Author.Needs.{needs}
 use Rattle.evaluate.specs.Cells.{cellsOf, written}
 use Rattle.evaluate.specs.Rows.{rowOf}
+use Rattle.evaluate.proofs.Laws.Appending.{few-cells}
+use Rattle.evaluate.proofs.Laws.Cells.{written-nothing}
+use Rattle.evaluate.proofs.Laws.Partners.{before-later}
+use Rattle.evaluate.proofs.Laws.Selecting.{copied-more}
+use Rattle.evaluate.proofs.Laws.Choices.{next-one}
+use borrow.Author.Needs.{needs}
 use Rattle.evaluate.proofs.select.copy_chosen.Statement.{statement}
 use Rattle.evaluate.proofs.select.copy_chosen.Tie as tie
 

@@ -1,10 +1,11 @@
-use Rattle.evaluate.proofs.Laws.Partners.{before-within}
-use Rattle.evaluate.proofs.Laws.Making.{read-long, select-makes}
-use native.Mathlib.Omega.{arith}
 use Prim.Native.Nat.{_*_}
+use native.Mathlib.Omega.{arith}
 use native.Mathlib.Nat.{mul-le-mul-right}
 use Rattle.evaluate.specs.Rows.{source}
 use Rattle.evaluate.specs.Choice.{conjunctsFrom}
+use Rattle.evaluate.proofs.Laws.Partners.{before-within}
+use Rattle.evaluate.proofs.Laws.Making.{select-makes}
+use Rattle.evaluate.proofs.Laws.Cells.{read-long}
 use borrow.Author.Needs.{needs}
 use Rattle.evaluate.proofs.select.select.Statement.{statement}
 use Rattle.evaluate.proofs.select.select.Tie as tie
