@@ -1,4 +1,5 @@
 // Refusal 10, and where the tables' cells begin.
+use crate::ROWS;
 use crate::cells::all_in_range;
 use plan::words::table_width;
 use plan::words::tables;
@@ -19,7 +20,7 @@ fn counts_right(counts: &[u32]) -> bool
 {
     let mut i = 0;
     while i < counts.len() {
-        if 4096 < counts[i] {
+        if ROWS < counts[i] {
             return false;
         }
         i += 1;

@@ -1,4 +1,5 @@
 // Group: one row per distinct key list, in order of first appearance; without keys one row.
+use crate::ROWS;
 use crate::aggregate::write_aggregates;
 use crate::choice::choose_all;
 use crate::choice::index;
@@ -8,6 +9,7 @@ use crate::columns::split;
 use crate::made::Made;
 use crate::rows::Block;
 use crate::rows::rows;
+use plan::Plan;
 use plan::words::wide;
 ghost use mathlib.Core.Path.{_≡_};
 ghost use mathlib.Core.Bool.{true};
@@ -63,9 +65,9 @@ pub fn group_by(
     requires { ⌜ Before (now cells) to b × (b .width ≤ 64) × (all (all inRange) (rowsOf (now cells) (now scratch) b) ≡ true) × (length (now found) ≡ 4096) ⌝ }
     ensures { λ r. ⌜ Makes limit (groupsBy (map positionOf (itemsFrom (now (words .entry)) j keys)) (aggregatesFrom (now (words .entry)) (j + keys) count) (rowsOf (now (cells .entry)) (now (scratch .entry)) b)) to (now (scratch .entry)) (now (scratch .exit)) r ⌝ }
 {
-    let mut positions = [0u32; 64];
+    let mut positions = [0u32; Plan::WIDTH as usize];
     read_positions(words, j, keys, &mut positions);
-    let mut rest = [0u16; 4096];
+    let mut rest = [0u16; ROWS as usize];
     choose_all(&mut rest, b.count);
     let width = wide(keys) + wide(count);
     let mut left = b.count;

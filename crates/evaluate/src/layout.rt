@@ -1,6 +1,7 @@
 // Three words for each node: its width, its reach, and where its rows begin.
 use crate::database::table_start;
 use crate::rows::Block;
+use plan::PerNode;
 use plan::words::left;
 use plan::words::nodes;
 use plan::words::operator;
@@ -12,7 +13,7 @@ ghost use lib.Dec.{leb};
 ghost use lib.ListN.{length};
 ghost use Rattle.algebra.specs.Lists.{all};
 ghost use Rattle.plan.specs.Words as spec;
-ghost use Rattle.plan.specs.Verdict.{widthAt, isOpen};
+ghost use Rattle.plan.specs.Verdict.{isOpen};
 ghost use Rattle.plan.specs.Promise.{Accepted};
 ghost use Rattle.plan.specs.Passes.{Widths, Reaches};
 ghost use Rattle.evaluate.specs.Database.{tableStart};
@@ -20,7 +21,7 @@ ghost use Rattle.evaluate.specs.Answer.{widest};
 ghost use Rattle.evaluate.specs.Store.{Shaped, Laid, blockOf};
 
 // The widest row of the plan.
-pub fn widest_row(words: &[u32], widths: &[u32; 256]) -> u32
+pub fn widest_row(words: &[u32], widths: &PerNode) -> u32
     requires { ⌜ Widths (now words) (now widths) × (spec.nodes (now words) ≤ 256) ⌝ }
     ensures { λ r. ⌜ r ≡ widest (now (words .entry)) ⌝ }
 {
@@ -52,8 +53,8 @@ pub fn work_out_layout(
     words: &[u32],
     counts: &[u32],
     limit: u32,
-    widths: &[u32; 256],
-    reaches: &[u32; 256],
+    widths: &PerNode,
+    reaches: &PerNode,
     layout: &mut [u32],
 )
     requires { ⌜ Accepted (now words) × (length (now counts) ≡ spec.tables (now words)) × (all (λ c. leb c 4096) (now counts) ≡ true) × (limit ≤ 4096) × Widths (now words) (now widths) × Reaches (now words) (now reaches) × (length (now layout) ≡ 768) ⌝ }

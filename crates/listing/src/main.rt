@@ -1,5 +1,6 @@
 // Reads plan words from standard input, least byte first, rewrites the plan, and prints its nodes.
 use libc::STDOUT_FILENO;
+use plan::Plan;
 use plan::Verdict;
 use plan::widths::work_out_widths;
 use plan::words::item_count;
@@ -66,8 +67,11 @@ fn print_plan(words: &[u32]) {
     }
 }
 
-// The longest plan: 16 tables, 256 nodes, 2,000 items.
-const LONGEST: usize = 15560;
+// The words of the longest plan.
+const LONGEST: usize = 8
+    + Plan::TABLES as usize
+    + 6 * Plan::NODES as usize
+    + 7 * Plan::ITEMS as usize;
 
 // The plan in the first count words.
 fn print_front(out: &[u32], count: usize) {

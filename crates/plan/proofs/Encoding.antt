@@ -1,6 +1,5 @@
 -- Plans and words: a plan is read as it was written, and the words of a well-formed slice are those that its plan is written as.
 use mathlib.Core.Path.{_≡_, ap, _∙_}
-use mathlib.Core.Bool.{true}
 use mathlib.Core.List.{List, map}
 use Prim.Native.Nat.{ℕ, _^_, _<_}
 use lib.ListN.{length, getD}
@@ -9,21 +8,15 @@ use Rattle.algebra.specs.Plan.{Node, scan}
 use Rattle.algebra.proofs.Lists.Every.{every-at}
 use Rattle.plan.specs.Words.{tableWidth}
 use Rattle.plan.specs.Plan.{nodeFor, kindOf, nodeAt, widthsOf, nodesOf}
-use Rattle.plan.specs.Verdict.{headerRight}
 use Rattle.plan.specs.Promise.{Formed}
 use Rattle.plan.specs.Encoding.{wordsOf, Storable}
 use Rattle.plan.proofs.Laws.Numbered.{numbered}
 use Rattle.plan.proofs.Laws.Encoded as laws
 use Rattle.plan.proofs.Laws.Decoded.{node-back}
-use Rattle.plan.proofs.Laws.Fitting.{storable}
 use Rattle.plan.proofs.Laws.Whole.{words-same}
 use Rattle.plan.proofs.Laws.Meets.{Writable, formed-of}
 
 module _ (widths : List ℕ) (ns : List Node) where
-  -- an encoded plan has a right header
-  pub header-of : headerRight (wordsOf widths ns) ≡ true
-  header-of = laws.header-right widths ns
-
   -- the widths are read as they were written
   pub decoded-widths : widthsOf (wordsOf widths ns) ≡ widths
   decoded-widths =
@@ -55,7 +48,3 @@ module _ (ws : List ℕ) where
   -- the words of a well-formed slice are those that its plan is written as
   pub encoded : Formed ws → Every (λ w. w < 2 ^ 32) ws → wordsOf (widthsOf ws) (nodesOf ws) ≡ ws
   encoded f small = words-same ws f small
-
-  -- every constant that words say can be written
-  pub storable-nodes : Every (λ w. w < 2 ^ 32) ws → Storable (nodesOf ws)
-  storable-nodes small = storable ws small

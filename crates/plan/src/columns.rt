@@ -1,4 +1,6 @@
 // Refusal 7: a column that doesn't exist, local or outer.
+use crate::PerNode;
+use crate::Plan;
 use crate::terms::Term;
 use crate::terms::first_term;
 use crate::terms::second_term;
@@ -20,14 +22,14 @@ ghost use Rattle.algebra.specs.Lists.{all};
 ghost use Rattle.plan.specs.Words as spec;
 ghost use Rattle.plan.specs.Terms.{meant};
 ghost use Rattle.plan.specs.Verdict.{lowest, isRightSide, scopeOf, termThere, columnsRight};
-ghost use Rattle.plan.specs.Promise.{Sized, Formed};
+ghost use Rattle.plan.specs.Promise.{Formed};
 ghost use Rattle.plan.specs.Passes.{Reaches, Widths, Joins, InPlan, itemThere};
 
 // Past the last node: no join.
-const NONE: u32 = 256;
+const NONE: u32 = Plan::NODES;
 
 // The join around input i of node p, where i is open.
-fn join_around(words: &[u32], p: u32, i: u32, joins: &[u32; 256]) -> u32
+fn join_around(words: &[u32], p: u32, i: u32, joins: &PerNode) -> u32
     requires { ⌜ p < 256 ⌝ }
     ensures { λ r. ⌜ r ≡ cond (isRightSide (now (words .entry)) p i) p (getD (now (joins .entry)) p 0) ⌝ }
 {
@@ -40,11 +42,11 @@ fn join_around(words: &[u32], p: u32, i: u32, joins: &[u32; 256]) -> u32
 }
 
 // For each node the dependent join whose left row is its level 0.
-pub fn work_out_joins(words: &[u32], reaches: &[u32; 256]) -> [u32; 256]
+pub fn work_out_joins(words: &[u32], reaches: &PerNode) -> PerNode
     requires { ⌜ Formed (now words) × Reaches (now words) (now reaches) ⌝ }
     ensures { λ r. ⌜ Joins (now (words .entry)) r × InPlan (now (words .entry)) r ⌝ }
 {
-    let mut joins = [NONE; 256];
+    let mut joins = [NONE; Plan::NODES as usize];
     let mut p = nodes(words);
     while 0 < p {
         p -= 1;
@@ -66,7 +68,7 @@ pub fn work_out_joins(words: &[u32], reaches: &[u32; 256]) -> [u32; 256]
 }
 
 // The width of the row at a level around node n, 0 where there is none.
-fn outer_width(words: &[u32], n: u32, level: u32, rows: &[u32; 256], joins: &[u32; 256]) -> u32
+fn outer_width(words: &[u32], n: u32, level: u32, rows: &PerNode, joins: &PerNode) -> u32
     requires { ⌜ Formed (now words) × (n < spec.nodes (now words)) × Widths (now words) (now rows) × Joins (now words) (now joins) × InPlan (now words) (now joins) ⌝ }
     ensures { λ r. ⌜ r ≡ getD (scopeOf (now (words .entry)) n) level 0 ⌝ }
 {
@@ -86,14 +88,7 @@ fn outer_width(words: &[u32], n: u32, level: u32, rows: &[u32; 256], joins: &[u3
 }
 
 // A term of node n over a row of width w.
-fn term_there(
-    words: &[u32],
-    n: u32,
-    term: Term,
-    w: u32,
-    rows: &[u32; 256],
-    joins: &[u32; 256],
-) -> bool
+fn term_there(words: &[u32], n: u32, term: Term, w: u32, rows: &PerNode, joins: &PerNode) -> bool
     requires { ⌜ Formed (now words) × (n < spec.nodes (now words)) × Widths (now words) (now rows) × Joins (now words) (now joins) × InPlan (now words) (now joins) ⌝ }
     ensures { λ r. ⌜ r ≡ termThere (scopeOf (now (words .entry)) n) w (meant term) ⌝ }
 {
@@ -112,8 +107,8 @@ fn item_there(
     j: u32,
     w: u32,
     v: u32,
-    rows: &[u32; 256],
-    joins: &[u32; 256],
+    rows: &PerNode,
+    joins: &PerNode,
 ) -> bool
     requires { ⌜ Formed (now words) × (n < spec.nodes (now words)) × Widths (now words) (now rows) × Joins (now words) (now joins) × InPlan (now words) (now joins) ⌝ }
     ensures { λ r. ⌜ r ≡ itemThere (scopeOf (now (words .entry)) n) w v (spec.itemAt (now (words .entry)) j) ⌝ }
@@ -133,7 +128,7 @@ fn item_there(
 }
 
 // Every item of node n.
-fn items_there(words: &[u32], n: u32, w: u32, v: u32, rows: &[u32; 256], joins: &[u32; 256]) -> bool
+fn items_there(words: &[u32], n: u32, w: u32, v: u32, rows: &PerNode, joins: &PerNode) -> bool
     requires { ⌜ Formed (now words) × (n < spec.nodes (now words)) × Widths (now words) (now rows) × Joins (now words) (now joins) × InPlan (now words) (now joins) ⌝ }
     ensures { λ r. ⌜ r ≡ all (itemThere (scopeOf (now (words .entry)) n) w v) (spec.itemsOf (now (words .entry)) n) ⌝ }
 {
@@ -150,7 +145,7 @@ fn items_there(words: &[u32], n: u32, w: u32, v: u32, rows: &[u32; 256], joins: 
 }
 
 // The columns of node n.
-fn columns_right(words: &[u32], n: u32, rows: &[u32; 256], joins: &[u32; 256]) -> bool
+fn columns_right(words: &[u32], n: u32, rows: &PerNode, joins: &PerNode) -> bool
     requires { ⌜ Formed (now words) × (n < spec.nodes (now words)) × Widths (now words) (now rows) × Joins (now words) (now joins) × InPlan (now words) (now joins) × ((m : ℕ) → m < spec.nodes (now words) → getD (now rows) m 0 ≤ 64) ⌝ }
     ensures { λ r. ⌜ r ≡ columnsRight (now (words .entry)) n ⌝ }
 {
@@ -167,7 +162,7 @@ fn columns_right(words: &[u32], n: u32, rows: &[u32; 256], joins: &[u32; 256]) -
 }
 
 // The lowest node with a column that doesn't exist; the number of nodes where there is none.
-pub fn first_missing(words: &[u32], rows: &[u32; 256], joins: &[u32; 256]) -> u32
+pub fn first_missing(words: &[u32], rows: &PerNode, joins: &PerNode) -> u32
     requires { ⌜ Formed (now words) × Widths (now words) (now rows) × Joins (now words) (now joins) × InPlan (now words) (now joins) × ((m : ℕ) → m < spec.nodes (now words) → getD (now rows) m 0 ≤ 64) ⌝ }
     ensures { λ r. ⌜ r ≡ lowest (λ n. not (columnsRight (now (words .entry)) n)) (spec.nodes (now (words .entry))) ⌝ }
 {

@@ -7,7 +7,6 @@ use crate::words::tables;
 use crate::words::wide;
 use crate::words::word;
 ghost use mathlib.Core.Path.{_≡_};
-ghost use Prim.Native.Nat.{_≤_};
 ghost use Rattle.algebra.specs.Lists.{all, upto};
 ghost use Rattle.plan.specs.Words.{tableWidth};
 ghost use Rattle.plan.specs.Items.{between};

@@ -1,4 +1,5 @@
 // The items of a node, by their sorts.
+use crate::tags::count_tagged;
 use crate::words::first_item;
 use crate::words::item_count;
 use crate::words::item_word;
@@ -7,10 +8,9 @@ use crate::words::tag;
 ghost use mathlib.Core.Path.{_≡_};
 ghost use Prim.Native.Nat.{_+_, _≤_};
 ghost use mathlib.Core.Bool.{_&&_};
-ghost use lib.ListN.{length};
-ghost use Rattle.algebra.specs.Lists.{all, keep};
+ghost use Rattle.algebra.specs.Lists.{all};
 ghost use Rattle.plan.specs.Words as spec;
-ghost use Rattle.plan.specs.Items.{between, termRight, isLocal, isUnused, conjunctRight, computationRight, keyRight, outputRight, aggregateRight};
+ghost use Rattle.plan.specs.Items.{termRight, isLocal, isUnused, conjunctRight, computationRight, aggregateRight};
 ghost use Rattle.plan.specs.Verdict.{inFront, itemsRight};
 ghost use Rattle.plan.specs.Sorts.{rightOf};
 
@@ -167,33 +167,6 @@ fn items_right(words: &[u32], a: u32, count: u32, sort: Sort) -> bool
         i += 1;
     }
     true
-}
-
-// A tag from low to high.
-fn tagged(words: &[u32], j: u32, low: u32, high: u32) -> bool
-    ensures { λ r. ⌜ r ≡ between low high (spec.itemWord (now (words .entry)) j 0) ⌝ }
-{
-    let t = tag(words, j);
-    if t < low {
-        return false;
-    }
-    t <= high
-}
-
-// How many of count items from item a on have a tag from low to high.
-pub fn count_tagged(words: &[u32], a: u32, count: u32, low: u32, high: u32) -> u32
-    requires { ⌜ a + count ≤ 2000 ⌝ }
-    ensures { λ r. ⌜ r ≡ length (keep (λ x. between low high (x .tag)) (spec.itemsFrom (now (words .entry)) a count)) ⌝ }
-{
-    let mut found = 0;
-    let mut i = 0;
-    while i < count {
-        if tagged(words, a + i, low, high) {
-            found += 1;
-        }
-        i += 1;
-    }
-    found
 }
 
 // The first m items of a sort, the others aggregates.

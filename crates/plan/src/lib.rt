@@ -2,11 +2,12 @@
 pub mod words; // each word by its name
 pub mod terms; // a term of an item, decoded
 mod header; // refusals 1 and 2
-pub mod items; // the items of a node
+pub mod tags; // the items of a node, counted by their tags
+mod items; // the items of a node, by their sorts
 mod malformed; // refusal 3
-mod uses; // refusal 4
+mod uses; // refusals 4 and 6
 pub mod widths; // refusal 5
-pub mod reach; // refusal 6
+pub mod reach; // how far a node reaches beyond itself
 mod columns; // refusal 7
 
 use columns::first_missing;
@@ -14,11 +15,10 @@ use columns::work_out_joins;
 use header::header_right;
 use header::limits_right;
 use malformed::malformed;
-use reach::first_open_twice;
 use reach::work_out_reaches;
 use uses::count_uses;
+use uses::first_open_twice;
 use uses::first_unused;
-use widths::Widths;
 use widths::work_out_widths;
 ghost use mathlib.Core.Path.{_≡_};
 ghost use Rattle.plan.specs.Verdict.{verdict};
@@ -36,6 +36,9 @@ impl Plan {
 
     pub const WIDTH: u32 = 64;
 }
+
+// A number for each node.
+pub type PerNode = [u32; Plan::NODES as usize];
 
 // Refusals 1 to 7, each with its node where it has one.
 pub enum Refusal {

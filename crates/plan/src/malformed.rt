@@ -15,7 +15,7 @@ ghost use mathlib.Core.Path.{_≡_};
 ghost use mathlib.Core.Bool.{not};
 ghost use Prim.Native.Nat.{_+_, _≤_, _<_};
 ghost use Rattle.plan.specs.Words as spec;
-ghost use Rattle.plan.specs.Verdict.{lowest, hasKind, itemsBefore, inputsRight, kindRight, countRight, nodeRight};
+ghost use Rattle.plan.specs.Verdict.{lowest, itemsBefore, inputsRight, kindRight, countRight, nodeRight};
 ghost use Rattle.plan.specs.Promise.{Sized};
 
 fn inputs_right(words: &[u32], n: u32) -> bool

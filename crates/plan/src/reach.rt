@@ -1,4 +1,6 @@
-// Refusal 6: an open node used more than once. A node is open where something in it or below it reaches beyond it.
+// How far a node reaches beyond itself: it is open where its reach is not 0.
+use crate::PerNode;
+use crate::Plan;
 use crate::words::first_item;
 use crate::words::has_right;
 use crate::words::item_count;
@@ -11,11 +13,9 @@ use crate::words::wide;
 ghost use mathlib.Core.Path.{_≡_};
 ghost use Prim.Native.Nat.{ℕ, _+_, _≤_, _<_, max};
 ghost use lib.ListN.{getD};
-ghost use Rattle.algebra.specs.Columns.{readsOf};
 ghost use Rattle.plan.specs.Words as spec;
-ghost use Rattle.plan.specs.Verdict.{lowest, isOpenTwice};
-ghost use Rattle.plan.specs.Promise.{Sized, Formed};
-ghost use Rattle.plan.specs.Passes.{Counted, Reaches, termReach, itemsReach, nodeReach};
+ghost use Rattle.plan.specs.Promise.{Formed};
+ghost use Rattle.plan.specs.Passes.{Reaches, termReach, itemsReach, nodeReach};
 
 fn larger(a: u32, b: u32) -> u32
     ensures { λ r. ⌜ r ≡ max a b ⌝ }
@@ -52,7 +52,7 @@ fn items_reach(words: &[u32], a: u32, count: u32) -> u32
 }
 
 // The reach of node n, from those of its inputs; a dependent join's left row is one level of its right side.
-fn node_reach(words: &[u32], n: u32, reaches: &[u32; 256]) -> u32
+fn node_reach(words: &[u32], n: u32, reaches: &PerNode) -> u32
     requires { ⌜ Formed (now words) × (n < spec.nodes (now words)) ⌝ }
     ensures { λ r. ⌜ r ≡ nodeReach (now (words .entry)) (λ i. getD (now (reaches .entry)) i 0) n ⌝ }
 {
@@ -75,11 +75,11 @@ fn node_reach(words: &[u32], n: u32, reaches: &[u32; 256]) -> u32
     larger(l, r)
 }
 
-pub fn work_out_reaches(words: &[u32]) -> [u32; 256]
+pub fn work_out_reaches(words: &[u32]) -> PerNode
     requires { ⌜ Formed (now words) ⌝ }
     ensures { λ r. ⌜ Reaches (now (words .entry)) r ⌝ }
 {
-    let mut reaches = [0u32; 256];
+    let mut reaches = [0u32; Plan::NODES as usize];
     let count = nodes(words);
     let mut n = 0;
     while n < count {
@@ -88,22 +88,4 @@ pub fn work_out_reaches(words: &[u32]) -> [u32; 256]
         n += 1;
     }
     reaches
-}
-
-// The lowest open node that is used more than once; the number of nodes where there is none.
-pub fn first_open_twice(words: &[u32], uses: &[u32; 256], reaches: &[u32; 256]) -> u32
-    requires { ⌜ Sized (now words) × Counted (now words) (now uses) × Reaches (now words) (now reaches) ⌝ }
-    ensures { λ r. ⌜ r ≡ lowest (isOpenTwice (now (words .entry))) (spec.nodes (now (words .entry))) ⌝ }
-{
-    let count = nodes(words);
-    let mut n = 0;
-    while n < count {
-        if 0 < reaches[wide(n)] {
-            if 1 < uses[wide(n)] {
-                return n;
-            }
-        }
-        n += 1;
-    }
-    count
 }

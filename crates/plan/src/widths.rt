@@ -1,6 +1,7 @@
 // Refusal 5: a row wider than 64.
+use crate::PerNode;
 use crate::Plan;
-use crate::items::count_tagged;
+use crate::tags::count_tagged;
 use crate::words::first_item;
 use crate::words::item_count;
 use crate::words::kind;
@@ -26,7 +27,7 @@ pub struct Widths {
 }
 
 // The row of a join of a kind.
-fn join_width(k: u32, l: u32, r: u32) -> u32
+pub fn join_width(k: u32, l: u32, r: u32) -> u32
     requires { ⌜ (l ≤ 64) × (r ≤ 64) ⌝ }
     ensures { λ w. ⌜ w ≡ joinWidth (kindOf k) l r ⌝ }
 {
@@ -37,7 +38,7 @@ fn join_width(k: u32, l: u32, r: u32) -> u32
 }
 
 // The width of node n, from those of its inputs.
-fn node_width(words: &[u32], n: u32, rows: &[u32; 256]) -> u32
+fn node_width(words: &[u32], n: u32, rows: &PerNode) -> u32
     requires { ⌜ Formed (now words) × (n < spec.nodes (now words)) × ((m : ℕ) → m < n → getD (now rows) m 0 ≤ 64) ⌝ }
     ensures { λ r. ⌜ r ≡ widthOf (widthsOf (now (words .entry))) (λ i. getD (now (rows .entry)) i 0) (nodeAt (now (words .entry)) n) ⌝ }
 {

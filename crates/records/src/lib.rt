@@ -1,12 +1,15 @@
 // Records of the programs that answer them: a part is a byte count and that many bytes, a number has its least byte first.
 use libc::STDOUT_FILENO;
+ghost use mathlib.Core.Path.{_≡_};
 ghost use Prim.Native.Nat.{_≤_};
 ghost use Rattle.io.specs.Counts.{Counts};
 
 // At most so many records are read, so that every input ends.
 pub const RECORDS: u32 = 1000;
 
-pub fn wide(x: u32) -> usize {
+pub fn wide(x: u32) -> usize
+    ensures { λ r. ⌜ r ≡ x ⌝ }
+{
     x as usize
 }
 

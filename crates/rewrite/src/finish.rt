@@ -2,6 +2,8 @@
 use crate::domain::Domain;
 use crate::page::Cursor;
 use crate::page::Head;
+use crate::page::ItemWords;
+use crate::page::NodeWords;
 use crate::page::last;
 use crate::page::push_node;
 use crate::sets::rank;
@@ -12,7 +14,8 @@ use crate::writer::moved;
 use crate::writer::set_keys;
 use crate::writer::set_matches;
 use crate::writer::shifted;
-use plan::items::count_tagged;
+use plan::PerNode;
+use plan::tags::count_tagged;
 use plan::words::first_item;
 use plan::words::item_count;
 use plan::words::kind;
@@ -20,8 +23,7 @@ use plan::words::operator;
 ghost use mathlib.Core.Path.{_≡_};
 ghost use mathlib.Core.Bool.{true, false};
 ghost use mathlib.Core.List.{[], _∷_, _++_};
-ghost use Prim.Native.Nat.{ℕ, _+_, _≤_, _<_};
-ghost use lib.ListN.{getD};
+ghost use Prim.Native.Nat.{_+_, _≤_, _<_};
 ghost use Rattle.algebra.specs.Domains as algebra;
 ghost use Rattle.algebra.specs.Plan as trees;
 ghost use Rattle.plan.specs.Words as spec;
@@ -51,9 +53,9 @@ pub fn over_input(
     n: u32,
     d: Domain,
     i: u32,
-    nodes: &mut [u32; 1536],
-    items: &mut [u32; 14000],
-    rows: &mut [u32; 256],
+    nodes: &mut NodeWords,
+    items: &mut ItemWords,
+    rows: &mut PerNode,
     c: Cursor,
 ) -> Cursor
     requires { ⌜ Accepted (now words) × (n < spec.nodes (now words)) × (spec.operator (now words) n ≡ 1 → ⊥) × (hasRight (spec.operator (now words) n) ≡ false) × Sound d ⌝ }
@@ -139,9 +141,9 @@ pub fn with_copy(
     d: Domain,
     i: u32,
     j: u32,
-    nodes: &mut [u32; 1536],
-    items: &mut [u32; 14000],
-    rows: &mut [u32; 256],
+    nodes: &mut NodeWords,
+    items: &mut ItemWords,
+    rows: &mut PerNode,
     c: Cursor,
 ) -> Cursor
     requires { ⌜ Accepted (now words) × (n < spec.nodes (now words)) × (hasRight (spec.operator (now words) n) ≡ true) × Sound d ⌝ }
@@ -189,9 +191,9 @@ fn drop_columns(
     n: u32,
     m: u32,
     w: u32,
-    nodes: &mut [u32; 1536],
-    items: &mut [u32; 14000],
-    rows: &mut [u32; 256],
+    nodes: &mut NodeWords,
+    items: &mut ItemWords,
+    rows: &mut PerNode,
     c: Cursor,
 ) -> Cursor
     requires { ⌜ (n ≤ 300) × (m ≤ 300) × (w ≤ 300) ⌝ }
@@ -230,9 +232,9 @@ pub fn with_open(
     wr: u32,
     i: u32,
     j: u32,
-    nodes: &mut [u32; 1536],
-    items: &mut [u32; 14000],
-    rows: &mut [u32; 256],
+    nodes: &mut NodeWords,
+    items: &mut ItemWords,
+    rows: &mut PerNode,
     c: Cursor,
 ) -> Cursor
     requires { ⌜ Accepted (now words) × (n < spec.nodes (now words)) × (hasRight (spec.operator (now words) n) ≡ true) × Sound d × (wl ≤ 64) × (wr ≤ 64) ⌝ }
@@ -282,9 +284,9 @@ pub fn with_open(
 pub fn domain_node(
     set: u64,
     i: u32,
-    nodes: &mut [u32; 1536],
-    items: &mut [u32; 14000],
-    rows: &mut [u32; 256],
+    nodes: &mut NodeWords,
+    items: &mut ItemWords,
+    rows: &mut PerNode,
     c: Cursor,
 ) -> Cursor
     ensures { λ r. ⌜ Grows (now (nodes .entry)) (now (nodes .exit)) (now (items .entry)) (now (items .exit)) (now (rows .entry)) (now (rows .exit)) c r (λ out. out ++ (trees.group (members set) [] i ∷ [])) ⌝ }
@@ -316,9 +318,9 @@ pub fn with_inner(
     wr: u32,
     i: u32,
     j: u32,
-    nodes: &mut [u32; 1536],
-    items: &mut [u32; 14000],
-    rows: &mut [u32; 256],
+    nodes: &mut NodeWords,
+    items: &mut ItemWords,
+    rows: &mut PerNode,
     c: Cursor,
 ) -> Cursor
     requires { ⌜ Accepted (now words) × (n < spec.nodes (now words)) × (spec.operator (now words) n ≡ 8) × Sound d × (wl ≤ 64) × (wr ≤ 64) ⌝ }

@@ -11,6 +11,7 @@ mod output; // the new words
 
 use output::total_words;
 use output::write_table;
+use plan::Plan;
 use plan::Refusal;
 use plan::Verdict;
 use plan::check;
@@ -41,8 +42,8 @@ fn rewrite_accepted(words: &[u32], out: &mut [u32]) -> Rewritten
     let rows = widths.rows;
     let reaches = work_out_reaches(words);
     let reads = work_out_reads(words);
-    let mut nodes = [0u32; 1536];
-    let mut items = [0u32; 14000];
+    let mut nodes = [0u32; 6 * Plan::NODES as usize];
+    let mut items = [0u32; 7 * Plan::ITEMS as usize];
     let c = rewrite_nodes(words, &reaches, &rows, &reads, &mut nodes, &mut items);
     if !c.ok {
         return Rewritten::OverLimits;

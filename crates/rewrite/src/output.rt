@@ -1,11 +1,13 @@
 // The words of the new plan, written to the lent output.
 use crate::page::Cursor;
+use crate::page::ItemWords;
+use crate::page::NodeWords;
 use plan::words::tables;
 use plan::words::wide;
 ghost use mathlib.Core.Path.{_≡_};
-ghost use mathlib.Core.List.{List, [], _∷_, _++_};
-ghost use Prim.Native.Nat.{ℕ, _+_, _*_, _≤_};
-ghost use lib.ListN.{length, take, drop};
+ghost use mathlib.Core.List.{_++_};
+ghost use Prim.Native.Nat.{_+_, _*_, _≤_};
+ghost use lib.ListN.{length, drop};
 ghost use lib.Seq.{paste};
 ghost use Rattle.plan.specs.Words as spec;
 ghost use Rattle.rewrite.specs.Output.{total, table};
@@ -30,13 +32,7 @@ pub fn total_words(words: &[u32], c: Cursor) -> usize
 }
 
 // Header, table widths, nodes and items.
-pub fn write_table(
-    words: &[u32],
-    c: Cursor,
-    nodes: &[u32; 1536],
-    items: &[u32; 14000],
-    out: &mut [u32],
-)
+pub fn write_table(words: &[u32], c: Cursor, nodes: &NodeWords, items: &ItemWords, out: &mut [u32])
     requires { ⌜ (8 + spec.tables (now words) ≤ length (now words)) × (spec.tables (now words) ≤ 16) × (c .nodes ≤ 256) × (c .items ≤ 2000) × (total (spec.tables (now words)) (c .nodes) (c .items) ≤ length (now out)) ⌝ }
     ensures { λ _. ⌜ now (out .exit) ≡ table (now (words .entry)) (c .nodes) (c .items) (now (nodes .entry)) (now (items .entry)) ++ drop (total (spec.tables (now (words .entry))) (c .nodes) (c .items)) (now (out .entry)) ⌝ }
 {

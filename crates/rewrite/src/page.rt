@@ -1,4 +1,5 @@
 // What has been written: how many nodes and items, and whether all of it is within the limits.
+use plan::PerNode;
 use plan::Plan;
 use plan::words::wide;
 ghost use mathlib.Core.Path.{_≡_};
@@ -7,6 +8,14 @@ ghost use Prim.Native.Nat.{_+_, _-_, _≤_, pred};
 ghost use lib.ListN.{length, getD};
 ghost use lib.Seq.{sets};
 ghost use Rattle.rewrite.specs.Pages.{Added, widthBy, Pushed};
+
+// The words of all nodes and of all items that there may be.
+pub type NodeWords = [u32; 6 * Plan::NODES as usize];
+
+pub type ItemWords = [u32; 7 * Plan::ITEMS as usize];
+
+// The widest row.
+const WIDEST: usize = Plan::WIDTH as usize;
 
 pub struct Cursor {
     pub nodes: u32,
@@ -36,13 +45,7 @@ fn put_item(words: &mut [u32], at: usize, tag: u32, first: Three, second: Three)
 }
 
 // One item more.
-pub fn push_item(
-    items: &mut [u32; 14000],
-    c: Cursor,
-    tag: u32,
-    first: Three,
-    second: Three,
-) -> Cursor
+pub fn push_item(items: &mut ItemWords, c: Cursor, tag: u32, first: Three, second: Three) -> Cursor
     ensures { λ r. ⌜ Added (now (items .entry)) (now (items .exit)) c r ((tag ∷ first .code ∷ first .level ∷ first .value ∷ second .code ∷ second .level ∷ second .value ∷ []) ∷ []) ⌝ }
 {
     if !c.ok {
@@ -128,8 +131,8 @@ fn items_from(first: u32, n: u32) -> u32
 
 // One node more, with the items from item first on.
 pub fn push_node(
-    nodes: &mut [u32; 1536],
-    rows: &mut [u32; 256],
+    nodes: &mut NodeWords,
+    rows: &mut PerNode,
     c: Cursor,
     first: u32,
     head: Head,
@@ -151,7 +154,7 @@ pub fn push_node(
     if Plan::NODES <= n {
         return over;
     }
-    if 64 < w {
+    if WIDEST < w {
         return over;
     }
     put_node(nodes, 6 * wide(n), head, first, count);

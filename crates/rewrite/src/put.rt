@@ -9,10 +9,14 @@ use crate::finish::with_inner;
 use crate::finish::with_open;
 use crate::page::Cursor;
 use crate::page::Head;
+use crate::page::ItemWords;
+use crate::page::NodeWords;
 use crate::page::last;
 use crate::page::push_node;
+use crate::reads::ReadSets;
 use crate::reads::key_set;
 use crate::sets::rank;
+use plan::PerNode;
 use plan::words::has_right;
 use plan::words::left;
 use plan::words::operator;
@@ -44,7 +48,7 @@ fn right_domain(words: &[u32], n: u32, d: Domain) -> Domain
 }
 
 // Whether node n is a dependent join whose right side reads its left row.
-fn reads_left(words: &[u32], n: u32, reads: &[u64; 2048]) -> bool
+fn reads_left(words: &[u32], n: u32, reads: &ReadSets) -> bool
     requires { ⌜ Accepted (now words) × (n < spec.nodes (now words)) × ReadsTable (now words) (spec.nodes (now words)) (now reads) ⌝ }
     ensures { λ r. ⌜ r ≡ (eqb (spec.operator (now (words .entry)) n) 8 && readsLeft (shapeAt (widthsOf (now (words .entry))) (nodesOf (now (words .entry))) (spec.right (now (words .entry)) n))) ⌝ }
 {
@@ -59,13 +63,13 @@ pub fn put(
     words: &[u32],
     n: u32,
     d: Domain,
-    reaches: &[u32; 256],
-    widths: &[u32; 256],
-    images: &[u32; 256],
-    reads: &[u64; 2048],
-    nodes: &mut [u32; 1536],
-    items: &mut [u32; 14000],
-    rows: &mut [u32; 256],
+    reaches: &PerNode,
+    widths: &PerNode,
+    images: &PerNode,
+    reads: &ReadSets,
+    nodes: &mut NodeWords,
+    items: &mut ItemWords,
+    rows: &mut PerNode,
     c: Cursor,
 ) -> Cursor
     requires { ⌜ Accepted (now words) × (n < spec.nodes (now words)) × Sound d × Reaches (now words) (now reaches) × Widths (now words) (now widths) × ReadsTable (now words) (spec.nodes (now words)) (now reads) ⌝ }

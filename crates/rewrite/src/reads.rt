@@ -3,6 +3,7 @@ use crate::domain::Domain;
 use crate::domain::place;
 use crate::sets::has;
 use crate::sets::with;
+use plan::Plan;
 use plan::words::first_item;
 use plan::words::item_count;
 use plan::words::item_word;
@@ -24,8 +25,11 @@ ghost use Rattle.rewrite.specs.Sets.{inSet, members};
 ghost use Rattle.rewrite.specs.Domains.{Means};
 ghost use Rattle.rewrite.specs.Reads.{reads, ReadsTable, Added, termRead, inputRead, inputReads, Filled, KeySet};
 
+// Eight sets for each node.
+pub type ReadSets = [u64; 8 * Plan::NODES as usize];
+
 // The term whose three words begin at word k of item j, read by node n.
-fn add_term(words: &[u32], j: u32, k: u32, n: u32, table: &mut [u64; 2048])
+fn add_term(words: &[u32], j: u32, k: u32, n: u32, table: &mut ReadSets)
     requires { ⌜ (n < 256) × (k ≤ 4) × (length (now table) ≡ 2048) ⌝ }
     ensures { λ _. ⌜ Added n (termRead (spec.threeAt (now (words .entry)) j k)) (now (table .entry)) (now (table .exit)) ⌝ }
 {
@@ -43,7 +47,7 @@ fn add_term(words: &[u32], j: u32, k: u32, n: u32, table: &mut [u64; 2048])
 }
 
 // What input i reads, read by node n; skip is 1 past a dependent join, whose left row is level 0 of its right side.
-fn add_input(table: &mut [u64; 2048], n: u32, i: u32, skip: u32)
+fn add_input(table: &mut ReadSets, n: u32, i: u32, skip: u32)
     requires { ⌜ (n < 256) × (i < n) × (skip ≤ 1) × (length (now table) ≡ 2048) ⌝ }
     ensures { λ _. ⌜ Added n (inputRead (now (table .entry)) i skip) (now (table .entry)) (now (table .exit)) ⌝ }
 {
@@ -56,7 +60,7 @@ fn add_input(table: &mut [u64; 2048], n: u32, i: u32, skip: u32)
 }
 
 // What the inputs of node n read.
-fn add_inputs(words: &[u32], n: u32, table: &mut [u64; 2048])
+fn add_inputs(words: &[u32], n: u32, table: &mut ReadSets)
     requires { ⌜ Accepted (now words) × (n < spec.nodes (now words)) × Filled (now words) n (now table) ⌝ }
     ensures { λ _. ⌜ Added n (reads (inputReads (now (words .entry)) n)) (now (table .entry)) (now (table .exit)) ⌝ }
 {
@@ -73,7 +77,7 @@ fn add_inputs(words: &[u32], n: u32, table: &mut [u64; 2048])
 }
 
 // All that node n reads, over what its inputs read.
-fn add_node(words: &[u32], n: u32, table: &mut [u64; 2048])
+fn add_node(words: &[u32], n: u32, table: &mut ReadSets)
     requires { ⌜ Accepted (now words) × (n < spec.nodes (now words)) × Filled (now words) n (now table) ⌝ }
     ensures { λ _. ⌜ Filled (now (words .entry)) (n + 1) (now (table .exit)) ⌝ }
 {
@@ -88,11 +92,11 @@ fn add_node(words: &[u32], n: u32, table: &mut [u64; 2048])
     }
 }
 
-pub fn work_out_reads(words: &[u32]) -> [u64; 2048]
+pub fn work_out_reads(words: &[u32]) -> ReadSets
     requires { ⌜ Accepted (now words) ⌝ }
     ensures { λ r. ⌜ ReadsTable (now (words .entry)) (spec.nodes (now (words .entry))) r ⌝ }
 {
-    let mut table = [0u64; 2048];
+    let mut table = [0u64; 8 * Plan::NODES as usize];
     let count = nodes(words);
     let mut n = 0;
     while n < count {
@@ -133,7 +137,7 @@ fn level_spots(d: Domain, level: u32, columns: u64, set: u64) -> u64
 }
 
 // The keys of a new domain under d: the columns of d and of the left that right side r reads.
-pub fn key_set(d: Domain, reads: &[u64; 2048], r: u32) -> u64
+pub fn key_set(d: Domain, reads: &ReadSets, r: u32) -> u64
     requires { ⌜ (r < 256) × (d .width ≤ 64) ⌝ }
     ensures { λ set. ⌜ KeySet d r (now (reads .entry)) set ⌝ }
 {

@@ -5,12 +5,17 @@ use crate::finish::domain_node;
 use crate::finish::with_inner;
 use crate::page::Cursor;
 use crate::page::Head;
+use crate::page::ItemWords;
+use crate::page::NodeWords;
 use crate::page::last;
 use crate::page::push_node;
 use crate::put::put;
+use crate::reads::ReadSets;
 use crate::reads::key_set;
 use crate::writer::copied;
-use plan::items::count_tagged;
+use plan::PerNode;
+use plan::Plan;
+use plan::tags::count_tagged;
 use plan::words::first_item;
 use plan::words::item_count;
 use plan::words::kind;
@@ -36,7 +41,7 @@ ghost use Rattle.rewrite.specs.Pages.{GrowsOver, copyOf, Finished};
 ghost use Rattle.rewrite.specs.Closing.{Closes};
 
 // The image of an input, which is a node before n.
-fn image(images: &[u32; 256], i: u32) -> u32
+fn image(images: &PerNode, i: u32) -> u32
     requires { ⌜ i < 256 ⌝ }
     ensures { λ r. ⌜ r ≡ getD (now (images .entry)) i 0 ⌝ }
 {
@@ -47,10 +52,10 @@ fn image(images: &[u32; 256], i: u32) -> u32
 fn copy_node(
     words: &[u32],
     n: u32,
-    images: &[u32; 256],
-    nodes: &mut [u32; 1536],
-    items: &mut [u32; 14000],
-    rows: &mut [u32; 256],
+    images: &PerNode,
+    nodes: &mut NodeWords,
+    items: &mut ItemWords,
+    rows: &mut PerNode,
     c: Cursor,
 ) -> Cursor
     requires { ⌜ Accepted (now words) × (n < spec.nodes (now words)) ⌝ }
@@ -122,13 +127,13 @@ fn copy_node(
 fn closed_node(
     words: &[u32],
     n: u32,
-    reaches: &[u32; 256],
-    widths: &[u32; 256],
-    images: &[u32; 256],
-    reads: &[u64; 2048],
-    nodes: &mut [u32; 1536],
-    items: &mut [u32; 14000],
-    rows: &mut [u32; 256],
+    reaches: &PerNode,
+    widths: &PerNode,
+    images: &PerNode,
+    reads: &ReadSets,
+    nodes: &mut NodeWords,
+    items: &mut ItemWords,
+    rows: &mut PerNode,
     c: Cursor,
 ) -> Cursor
     requires { ⌜ Accepted (now words) × (n < spec.nodes (now words)) × (closed (shapeAt (widthsOf (now words)) (nodesOf (now words)) n) ≡ true) × Reaches (now words) (now reaches) × Widths (now words) (now widths) × ReadsTable (now words) (spec.nodes (now words)) (now reads) ⌝ }
@@ -181,17 +186,17 @@ fn closed_node(
 // All nodes: what is written then is the plan that the rules give.
 pub fn rewrite_nodes(
     words: &[u32],
-    reaches: &[u32; 256],
-    widths: &[u32; 256],
-    reads: &[u64; 2048],
-    nodes: &mut [u32; 1536],
-    items: &mut [u32; 14000],
+    reaches: &PerNode,
+    widths: &PerNode,
+    reads: &ReadSets,
+    nodes: &mut NodeWords,
+    items: &mut ItemWords,
 ) -> Cursor
     requires { ⌜ Accepted (now words) × Reaches (now words) (now reaches) × Widths (now words) (now widths) × ReadsTable (now words) (spec.nodes (now words)) (now reads) ⌝ }
     ensures { λ r. ⌜ Finished (widthsOf (now (words .entry))) (newPlan (now (words .entry))) (now (nodes .exit)) (now (items .exit)) r ⌝ }
 {
-    let mut rows = [0u32; 256];
-    let mut images = [0u32; 256];
+    let mut rows = [0u32; Plan::NODES as usize];
+    let mut images = [0u32; Plan::NODES as usize];
     let mut c = Cursor {
         nodes: 0,
         items: 0,

@@ -2,6 +2,7 @@
 use crate::domain::Domain;
 use crate::domain::place;
 use crate::page::Cursor;
+use crate::page::ItemWords;
 use crate::page::Three;
 use crate::page::push_item;
 use crate::sets::has;
@@ -34,7 +35,7 @@ fn local(position: u32) -> Three
 }
 
 // A tag 7 for each of d columns, the other one behind n others.
-pub fn matches(items: &mut [u32; 14000], c: Cursor, d: u32, n: u32) -> Cursor
+pub fn matches(items: &mut ItemWords, c: Cursor, d: u32, n: u32) -> Cursor
     requires { ⌜ (d ≤ 64) × (n ≤ 1000) ⌝ }
     ensures { λ r. ⌜ Added (now (items .entry)) (now (items .exit)) c r (map conjunctWords (algebra.match (λ q. q) (λ q. n + q) (upto d))) ⌝ }
 {
@@ -48,7 +49,7 @@ pub fn matches(items: &mut [u32; 14000], c: Cursor, d: u32, n: u32) -> Cursor
 }
 
 // A tag 7 for each column of set, the other one at its place behind n others.
-pub fn set_matches(items: &mut [u32; 14000], c: Cursor, set: u64, n: u32) -> Cursor
+pub fn set_matches(items: &mut ItemWords, c: Cursor, set: u64, n: u32) -> Cursor
     requires { ⌜ n ≤ 1000 ⌝ }
     ensures { λ r. ⌜ Added (now (items .entry)) (now (items .exit)) c r (map conjunctWords (algebra.match (λ q. q) (λ q. n + algebra.below (members set) q) (members set))) ⌝ }
 {
@@ -66,7 +67,7 @@ pub fn set_matches(items: &mut [u32; 14000], c: Cursor, set: u64, n: u32) -> Cur
 }
 
 // Keys or output columns: n columns from a on.
-pub fn columns(items: &mut [u32; 14000], c: Cursor, tag: u32, a: u32, n: u32) -> Cursor
+pub fn columns(items: &mut ItemWords, c: Cursor, tag: u32, a: u32, n: u32) -> Cursor
     requires { ⌜ a + n ≤ 1000 ⌝ }
     ensures { λ r. ⌜ Added (now (items .entry)) (now (items .exit)) c r (map (positionWords tag) (algebra.span a n)) ⌝ }
 {
@@ -80,7 +81,7 @@ pub fn columns(items: &mut [u32; 14000], c: Cursor, tag: u32, a: u32, n: u32) ->
 }
 
 // The columns of set as keys.
-pub fn set_keys(items: &mut [u32; 14000], c: Cursor, set: u64) -> Cursor
+pub fn set_keys(items: &mut ItemWords, c: Cursor, set: u64) -> Cursor
     ensures { λ r. ⌜ Added (now (items .entry)) (now (items .exit)) c r (map (positionWords 11) (members set)) ⌝ }
 {
     let mut c = c;
@@ -107,7 +108,7 @@ fn three(words: &[u32], j: u32, k: u32) -> Three
 }
 
 // Items as they stand.
-pub fn copied(words: &[u32], items: &mut [u32; 14000], c: Cursor, a: u32, count: u32) -> Cursor
+pub fn copied(words: &[u32], items: &mut ItemWords, c: Cursor, a: u32, count: u32) -> Cursor
     requires { ⌜ a + count ≤ 2000 ⌝ }
     ensures { λ r. ⌜ Added (now (items .entry)) (now (items .exit)) c r (map itemWords (spec.itemsFrom (now (words .entry)) a count)) ⌝ }
 {
@@ -130,7 +131,7 @@ pub fn copied(words: &[u32], items: &mut [u32; 14000], c: Cursor, a: u32, count:
 // Keys, output columns and aggregates, each column behind d others.
 pub fn shifted(
     words: &[u32],
-    items: &mut [u32; 14000],
+    items: &mut ItemWords,
     c: Cursor,
     a: u32,
     count: u32,
@@ -182,7 +183,7 @@ fn moved_three(words: &[u32], j: u32, k: u32, d: Domain, w: u32, x: u32, y: u32)
 // One conjunct or computation, moved.
 fn moved_item(
     words: &[u32],
-    items: &mut [u32; 14000],
+    items: &mut ItemWords,
     c: Cursor,
     j: u32,
     d: Domain,
@@ -204,7 +205,7 @@ fn moved_item(
 // Conjuncts or a computation, moved.
 pub fn moved(
     words: &[u32],
-    items: &mut [u32; 14000],
+    items: &mut ItemWords,
     c: Cursor,
     a: u32,
     count: u32,

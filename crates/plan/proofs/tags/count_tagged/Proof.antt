@@ -4,8 +4,8 @@ use Prim.Native.Nat.{_-_, _≤_}
 use native.Mathlib.Omega.{arith}
 use borrow.Author.Needs.{needs}
 use Rattle.plan.proofs.Laws.Items.{tagsIn, tags-more, tags-same, tags-end}
-use Rattle.plan.proofs.items.count_tagged.Statement.{statement}
-use Rattle.plan.proofs.items.count_tagged.Tie as tie
+use Rattle.plan.proofs.tags.count_tagged.Statement.{statement}
+use Rattle.plan.proofs.tags.count_tagged.Tie as tie
 
 abbrev Inv-loop : tie.InvT-loop
 Inv-loop words a count low high found₀ i₀ found i = (i ≤ count) × ((found ≤ i) × (found ≡ tagsIn words a low high i))

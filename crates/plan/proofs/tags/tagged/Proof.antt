@@ -1,7 +1,7 @@
 use Rattle.plan.proofs.Laws.Items.{tag-under, tag-from}
 use borrow.Author.Needs.{needs}
-use Rattle.plan.proofs.items.tagged.Statement.{statement}
-use Rattle.plan.proofs.items.tagged.Tie as tie
+use Rattle.plan.proofs.tags.tagged.Statement.{statement}
+use Rattle.plan.proofs.tags.tagged.Tie as tie
 
 tag-requires : tie.Need-tag-requires
 tag-requires c κs = search needs

@@ -10,8 +10,8 @@ use Rattle.plan.specs.Verdict.{isOpenTwice}
 use Rattle.plan.proofs.Laws.Formed.{limited}
 use Rattle.plan.proofs.Laws.Loops.{none-more, lowest-found, lowest-end}
 use Rattle.plan.proofs.Laws.Reach.{open-twice, closed-node, open-once}
-use Rattle.plan.proofs.reach.first_open_twice.Statement.{statement}
-use Rattle.plan.proofs.reach.first_open_twice.Tie as tie
+use Rattle.plan.proofs.uses.first_open_twice.Statement.{statement}
+use Rattle.plan.proofs.uses.first_open_twice.Tie as tie
 
 abbrev Inv-loop : tie.InvT-loop
 Inv-loop words uses reaches count n₀ n = (n ≤ count) × (keep (isOpenTwice words) (upto n) ≡ [])
