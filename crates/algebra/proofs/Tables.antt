@@ -4,6 +4,7 @@ pub mod Agreement
 pub mod Shapes
 pub mod Tidy
 pub mod Placing
+pub mod Fine
 pub mod Nodes
 pub mod Theorem
 pub mod Growth

@@ -3,7 +3,6 @@ use mathlib.Core.Path.{_∙_, _≡_, ap, refl, sym}
 use mathlib.Core.Bool.{Bool, _&&_, false, not, true}
 use mathlib.Core.List.{List, []}
 use Prim.Native.Nat.{_+_, _<_, _^_, _≤_, suc, zero, ℕ}
-use native.Mathlib.Nat.{zero-add}
 use native.Mathlib.Omega.{arith}
 use lib.Dec.{eqb, leb, ltb}
 use lib.ListN.{getD, length}
@@ -13,7 +12,7 @@ use Rattle.algebra.specs.Plan.{Node, inputs, scan}
 use Rattle.algebra.specs.Columns.{Shape, closed, shapeAt}
 use Rattle.algebra.specs.Statements.{Plain, uses}
 use Rattle.algebra.proofs.Lists.Same.{and-left, and-right}
-use Rattle.algebra.proofs.Lists.Every.{every-map, every-mapped}
+use Rattle.algebra.proofs.Lists.Every.{every-in, every-map, every-mapped}
 use Rattle.algebra.proofs.Lists.Keep.{keep-none}
 use Rattle.algebra.proofs.Domains.Keys.{upto-all, upto-below}
 use Rattle.algebra.proofs.Statements.{no-dependent-join, rewriting-well-formed}
@@ -32,15 +31,14 @@ use Rattle.plan.proofs.Laws.Formed.{between-high, between-low, limited, mapped-
 use Rattle.plan.proofs.Laws.Header.{Limits}
 use Rattle.plan.proofs.Laws.Loops.{lowest-none}
 use Rattle.plan.proofs.Laws.Meets.{Writable}
-use Rattle.plan.proofs.Laws.Numbered.{numbered-length}
+use Rattle.plan.proofs.Laws.Numbered.{every-all, numbered-length}
 use Rattle.plan.proofs.Laws.Verdict.{from4, from5, from6, from7, past-limits, refused-later}
 use Rattle.rewrite.specs.Answer.{newPlan, newWords, withinLimits}
-use Rattle.rewrite.proofs.Laws.Columns.{all-every}
-use Rattle.rewrite.proofs.Laws.ColumnsThere.{columns-there}
-use Rattle.rewrite.proofs.Laws.Local.{inputs-before, ordered-all, ordered-levelled, sensible-placed, tidy-node}
+use Rattle.algebra.proofs.Tables.Fine.{inputs-under}
+use Rattle.rewrite.proofs.Laws.Pieces.{columns-there}
+use Rattle.rewrite.proofs.Laws.Local.{ordered-all, ordered-levelled, sensible-placed, tidy-node}
 use Rattle.rewrite.proofs.Laws.Sensible.{Fit, plan-fits}
 use Rattle.rewrite.proofs.Laws.SensibleWritten.{rewritten-fits}
-use Rattle.rewrite.proofs.Laws.Shaped.{every-in}
 use Rattle.rewrite.proofs.Laws.Unchanged.{plain-operator, plan-unchanged}
 
 -- ---- words in which no node is at fault are accepted
@@ -78,21 +76,21 @@ within-says widths ns e =
     record {
       nodes-few = leb-true _ _ (and-left (leb (length ns) 256) _ e);
       items-few = leb-true _ _ (and-left (leb (length (allItems ns)) 2000) _ rest);
-      narrow = λ n h. leb-true _ _ (upto-all (length ns) (all-every (λ i. leb (shapeAt widths ns i .width) 64) (upto (length ns)) (and-right (leb (length (allItems ns)) 2000) _ rest)) n h);
+      narrow = λ n h. leb-true _ _ (upto-all (length ns) (every-all (λ i. leb (shapeAt widths ns i .width) 64) (upto (length ns)) (and-right (leb (length (allItems ns)) 2000) _ rest)) n h);
     }
 
 -- the widths of the tables
 tables-within : (ws : List ℕ) → Limits ws → Every (λ w. (1 ≤ w) × (w ≤ 64)) (widthsOf ws)
 tables-within ws l =
     every-mapped (tableWidth ws)
-    (every-map (λ t h. (between-low 1 64 (tableWidth ws t) h, between-high 1 64 (tableWidth ws t) h)) (all-every (λ t. between 1 64 (tableWidth ws t)) (upto (tables ws)) (l .widths)))
+    (every-map (λ t h. (between-low 1 64 (tableWidth ws t) h, between-high 1 64 (tableWidth ws t) h)) (every-all (λ t. between 1 64 (tableWidth ws t)) (upto (tables ws)) (l .widths)))
 
 -- ---- the rewriting of an accepted plan
 
 module _ (ws : List ℕ) (a : Accepted ws) where
   -- the inputs of a node are before it
   new-inputs : (i : ℕ) → i < length (newPlan ws) → Every (λ j. j < i) (inputs (getD (newPlan ws) i (scan 0)))
-  new-inputs i h = rw zero-add at (inputs-before (scan 0) (widthsOf ws) [] (newPlan ws) (rewriting-well-formed (widthsOf ws) (nodesOf ws) (a .plan) .nodes) i h)
+  new-inputs i h = inputs-under (widthsOf ws) (scan 0) (newPlan ws) (rewriting-well-formed (widthsOf ws) (nodesOf ws) (a .plan) .nodes) i h
 
   -- its nodes mention local columns only
   new-ordered : Ordered (newPlan ws)

@@ -3,6 +3,8 @@ pub mod Sets
 pub mod Domains
 pub mod Pages
 pub mod Writer
+pub mod Limits
+pub mod ColumnsRead
 pub mod Reads
 pub mod Keys
 pub mod Moved
@@ -21,6 +23,7 @@ pub mod Rules
 pub mod Emitted
 pub mod Joined
 pub mod Finish
+pub mod Alike
 pub mod Fuel
 pub mod Inputs
 pub mod Standing
@@ -28,6 +31,7 @@ pub mod LeftRead
 pub mod Put
 pub mod Copies
 pub mod Closed
+pub mod Pieces
 pub mod Steps
 pub mod Output
 pub mod Answer

@@ -1,10 +1,11 @@
 -- A property of every element of a list.
-use mathlib.Core.Path.{_≡_, refl}
+use mathlib.Core.Path.{_≡_, refl, sym}
 use mathlib.Core.Bool.{Bool, cond, false, false≢true, true, true≢false}
 use mathlib.Core.List.{List, [], _++_, _∷_, head-eq-of-cons-eq, map, tail-eq-of-cons-eq}
-use Prim.Native.Nat.{suc, zero, ℕ}
-use lib.ListN.{getD}
-use Rattle.algebra.specs.Lists.{Every, any, done, each, keep, more}
+use Prim.Native.Nat.{_<_, suc, zero, ℕ}
+use native.Mathlib.Omega.{arith}
+use lib.ListN.{getD, length}
+use Rattle.algebra.specs.Lists.{Every, any, done, each, isEmpty, keep, more}
 
 any-if : (b c : Bool) → c ≡ true → cond b true c ≡ true
 any-if true c e = refl
@@ -98,13 +99,24 @@ module _ {A : Type 0} where
   any-none p [] e = done
   any-none p (x ∷ xs) e = let h = any-none-if p x xs (p x) refl e in more (h .0) (any-none p xs (h .1))
 
+  -- where one passes, the list is not empty
+  pub any-some : (p : A → Bool) (xs : List A) → any p xs ≡ true → isEmpty xs ≡ false
+  any-some p [] e = sym e
+  any-some p (x ∷ xs) e = refl
+
   -- an element is found by a test that it passes
   pub any-self : (p : A → A → Bool) → ((x : A) → p x x ≡ true) → (xs : List A) → Every (λ x. any (p x) xs ≡ true) xs
   any-self p h [] = done
   any-self p h (x ∷ xs) = more {x = x} (rw (h x)) (every-map (λ y (e : any (p y) xs ≡ true). any-if (p y x) (any (p y) xs) e) (any-self p h xs))
 
--- an element of a list that is behind another, (the && last) one
+-- the element at a place, or what stands for one past the end
 pub every-at : {A : Type 0} {P : A → Type 0} (z : A) {xs : List A} → P z → Every P xs → (i : ℕ) → P (getD xs i z)
 every-at z h done i = h
 every-at z h (more g t) zero = g
 every-at z h (more g t) (suc i) = every-at z h t i
+
+-- the element at a place that is there
+pub every-in : {A : Type 0} {P : A → Type 0} (z : A) {xs : List A} → Every P xs → (i : ℕ) → i < length xs → P (getD xs i z)
+every-in z done i h = absurd (omega arith)
+every-in z (more g t) zero h = g
+every-in z (more g t) (suc i) h = every-in z t i (omega arith)

@@ -6,12 +6,13 @@ use Prim.Native.Nat.{_*_, _+_, _<_, _≤_, suc, zero, ℕ}
 use native.Mathlib.Nat.{mul-le-mul-right, zero-add}
 use native.Mathlib.Omega.{arith}
 use lib.ListN.{getD, length, length-append}
-use Rattle.algebra.specs.Lists.{any, done, each, isEmpty}
+use Rattle.algebra.specs.Lists.{done, each}
 use Rattle.algebra.specs.Plan.{Conjunct, Kind, Node, anti, compute, dependent, group, groupjoin, inner, inputs, join, left-outer, project, scan, select, semi}
 use Rattle.algebra.specs.Columns.{Shape, closed, readsLeft, shapeAt, shapeOf}
 use Rattle.algebra.specs.Domains.{Domain, domainKeys, innerDomain, inside, outside}
 use Rattle.algebra.specs.Rewriting.{Piece, Placed, State, addPiece, closedNode, closedPut, dropping, emit, joinClosed, joinOpen, joinUnder, missing, openUnder, pieceAt, rewritten, step, steps, unnest}
 use Rattle.algebra.specs.Statements.{OpenOnce, WellFormed, uses}
+use Rattle.algebra.proofs.Lists.Every.{any-some}
 use Rattle.algebra.proofs.Lists.Keep.{each-append}
 use Rattle.algebra.proofs.Lists.Entries.{Beside, beside-at, beside-snoc, ended}
 use Rattle.algebra.proofs.Lists.Sums.{occurs, taken, taken-all, taken-append, taken-once, taken-snoc, total, total-snoc}
@@ -34,11 +35,6 @@ dropping-grows inner ps n out m h = simp length-append (omega arith)
 dropping-grows semi ps n out m h = simp length-append (omega arith)
 dropping-grows anti ps n out m h = simp length-append (omega arith)
 dropping-grows left-outer ps n out m h = simp length-append (omega arith)
-
--- a side that reads the left row is open
-reads-open : {A : Type 0} (p : A → Bool) (xs : List A) → any p xs ≡ true → isEmpty xs ≡ false
-reads-open p [] e = sym e
-reads-open p (x ∷ xs) e = refl
 
 -- a dependent join, its left in place, writes a group, the right under it, a join and a project
 unnest-grows : (k : Kind) (cs : List Conjunct) (l r : Piece) (D : Domain) (x : Placed) (w : ℕ) → Weighs r w → closed (r .shape) ≡ false
@@ -82,7 +78,7 @@ module _ (at : ℕ → Piece) (w : ℕ → ℕ) (h : (i : ℕ) → Weighs (at i)
       let x : Placed = at l .put D out in
       let p = h l .put-grows D out in
       choice-grows (readsLeft (at r .shape)) _ _ _
-      (λ e. omega (arith, unnest-grows k cs (at l) (at r) D x (w r) (h r) (reads-open _ (at r .shape .reads) e)))
+      (λ e. omega (arith, unnest-grows k cs (at l) (at r) D x (w r) (h r) (any-some _ (at r .shape .reads) e)))
       (λ e. omega (arith, join-grows k cs (at l) (at r) D (inside D) out (w l) (w r) (h l) (h r)))
 
   -- a closed node does so too

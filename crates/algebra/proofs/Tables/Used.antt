@@ -8,18 +8,19 @@ use lib.Dec.{ltb}
 use lib.ListN.{List·getD-append, getD, length, length-append}
 use lib.Seq.{getD-at}
 use borrow.Author.Tests.{ltb-false, ltb-true}
-use Rattle.algebra.specs.Lists.{Every, done, each, more}
+use Rattle.algebra.specs.Lists.{Every, done, each}
 use Rattle.algebra.specs.Plan.{Conjunct, Kind, Node, anti, compute, dependent, group, groupjoin, inner, inputs, join, left-outer, project, scan, select, semi}
 use Rattle.algebra.specs.Columns.{Shape, closed, computationReads, conjunctReads, readsLeft, shapeOf}
 use Rattle.algebra.specs.Domains.{Domain, domainKeys, innerDomain, inside, outside}
 use Rattle.algebra.specs.Rewriting.{Piece, Placed, State, addPiece, closedNode, closedPut, dropping, emit, joinClosed, joinOpen, joinUnder, missing, openUnder, pieceAt, rewritten, step, steps, unnest}
-use Rattle.algebra.specs.Statements.{Fine, FineFrom, WellFormed, uses}
+use Rattle.algebra.specs.Statements.{FineFrom, WellFormed, uses}
 use Rattle.algebra.proofs.Lists.Every.{every-append, every-head, every-map, every-tail}
 use Rattle.algebra.proofs.Lists.Keep.{each-append}
 use Rattle.algebra.proofs.Lists.Entries.{Beside, beside-snoc, ended}
 use Rattle.algebra.proofs.Lists.Sums.{occurs}
 use Rattle.algebra.proofs.Lists.Standing.{Has, beside-inside, beyond-all, but-last, every-has, has-all, has-each, has-first, has-only, occurs-append}
 use Rattle.algebra.proofs.Tables.Tidy.{closed-back, closed-front}
+use Rattle.algebra.proofs.Tables.Fine.{fine-below}
 use Rattle.algebra.proofs.Tables.Theorem.{Inv, after, shapes-are}
 
 -- node j is an input
@@ -165,17 +166,6 @@ module _ (widths : List ℕ) (at : ℕ → Piece) (c : ℕ → List ℕ) where
       (choice (closed (at r .shape)) _ _ _
       (λ q. rw (hr .copy q) (single out _ _ (has-all _)))
       (λ q. unnest-written k cs (at l) (at r) outside (record { out = out; at = at l .image }) out (at l .image ∷ []) (c r) (single out _ _ (has-all _)) hr))
-
--- the inputs of a node stand before it
-fine-below : (sh : ℕ → Shape) (c : ℕ) (n : Node) → Fine sh c n → Every (λ i. i < c) (inputs n)
-fine-below sh c (scan t) f = done
-fine-below sh c (select cs i) f = more f done
-fine-below sh c (compute a i) f = more f done
-fine-below sh c (project ps i) f = more f done
-fine-below sh c (join k cs l r) f = more (f .0) (more (f .1) done)
-fine-below sh c (group ks gs i) f = more f done
-fine-below sh c (groupjoin cs gs l r) f = more (f .0) (more (f .1) done)
-fine-below sh c (dependent k cs l r) f = more (f .0) (more (f .1) done)
 
 -- after the nodes ns, node j of those written is an input, or a node of ns that is no input covers it
 data Owed (ns out : List Node) (covers : List (List ℕ)) (j : ℕ) : Type 0 where

@@ -223,6 +223,10 @@ items-empty ws a n = empty-length (itemsFrom ws a n) ∙ ap (λ (k : ℕ). eqb k
 pub items-read : (p : Item → Bool) (ws : List ℕ) (n : ℕ) {a count : ℕ} {r : Bool} → a ≡ firstItem ws n → count ≡ itemCount ws n → r ≡ all p (itemsFrom ws a count) → r ≡ all p (itemsOf ws n)
 items-read p ws n e f q = rw (sym e, sym f) q
 
+-- the keys are the items with tag 11
+pub keys-in : (ws : List ℕ) (a count : ℕ) → length (keep isKey (itemsFrom ws a count)) ≡ tagsIn ws a 11 11 count
+keys-in ws a count = ap length (keep-same isKey (λ x. between 11 11 (x .tag)) (itemsFrom ws a count) (λ x. sym (between-one 11 (x .tag))))
+
 module _ (ws : List ℕ) (a count o x y z : ℕ) (e : a ≡ x) (f : count ≡ y) (g : o ≡ z) where
   -- what is said of what the code read is said of the words
   as-read : (r : Bool) → r ≡ itemsRight o (itemsFrom ws a count) → r ≡ itemsRight z (itemsFrom ws x y)
@@ -256,13 +260,9 @@ module _ (ws : List ℕ) (a count o x y z : ℕ) (e : a ≡ x) (f : count ≡ y)
   unfolding itemsRight
   group-none h k = as-read _ (rw (h, items-empty ws a count, eq-eqb count 0 k))
 
-  -- the keys are the items with tag 11
-  keys-in : length (keep isKey (itemsFrom ws a count)) ≡ tagsIn ws a 11 11 count
-  keys-in = ap length (keep-same isKey (λ x. between 11 11 (x .tag)) (itemsFrom ws a count) (λ x. sym (between-one 11 (x .tag))))
-
   pub group-some : o ≡ 6 → (count ≡ 0 → ⊥) → (m : ℕ) → m ≡ tagsIn ws a 11 11 count → (r : Bool) → r ≡ inFront keyRight aggregateRight m (itemsFrom ws a count) → r ≡ itemsRight z (itemsFrom ws x y)
   unfolding itemsRight
-  group-some h k m q r p = as-read r (rw (h, items-empty ws a count, ne-eqb count 0 k, keys-in, sym q) p)
+  group-some h k m q r p = as-read r (rw (h, items-empty ws a count, ne-eqb count 0 k, keys-in ws a count, sym q) p)
 
   -- operator 7: conjuncts, then at least one aggregate
   module _ (h : o ≡ 7) (m : ℕ) (q : m ≡ tagsIn ws a 1 7 count) where

@@ -23,7 +23,7 @@ Narrow x = (x .first .value < 2 ^ 32) × (x .second .value < 2 ^ 32)
 -- ---- terms
 
 -- a constant read and written again is the same word
-constant-again : (x : ℕ) → x < 2 ^ 32 → unsigned (signed x) ≡ x
+pub constant-again : (x : ℕ) → x < 2 ^ 32 → unsigned (signed x) ≡ x
 constant-again x h = go (ltb x (2 ^ 31)) refl
   where
     go : (b : Bool) → ltb x (2 ^ 31) ≡ b → unsigned (signed x) ≡ x

@@ -2,18 +2,18 @@
 use mathlib.Core.Path.{_≡_, refl, sym, ap, subst, _∙_}
 use mathlib.Core.Bool.{Bool, true, false}
 use mathlib.Core.List.{List, [], _∷_, _++_, append-nil}
-use Prim.Native.Nat.{ℕ, zero, suc, _+_, _*_, _≤_, _<_}
+use Prim.Native.Nat.{ℕ, _+_, _*_, _≤_, _<_}
 use native.Mathlib.Nat.{add-zero}
 use native.Mathlib.Omega.{arith}
 use lib.Dec.{leb, ltb}
 use lib.ListN.{length, take, drop, length-drop}
 use lib.Seq.{length-take-le, getD-take, getD-drop}
 use borrow.Author.Tests.{ltb-true, ltb-false, leb-true, le-leb, lt-ltb, le-ltb, ne-eqb}
-use Rattle.algebra.specs.Lists.{each, all, upto}
+use Rattle.algebra.specs.Lists.{each, upto}
 use Rattle.algebra.specs.Plan.{Node}
 use Rattle.algebra.specs.Columns.{Shape, shapeAt}
 use Rattle.algebra.proofs.Lists.Same.{and-left, and-right}
-use Rattle.algebra.proofs.Lists.Every.{every-map}
+use Rattle.algebra.proofs.Lists.Every.{every-map, every-of}
 use Rattle.algebra.proofs.Lists.Keep.{keep-none}
 use Rattle.algebra.proofs.Domains.Keys.{upto-all, upto-below}
 use Rattle.plan.specs.Words.{tables, nodes, tableWidth}
@@ -29,7 +29,7 @@ use Rattle.plan.proofs.Promise.{promise}
 use Rattle.plan.proofs.Laws.Encoded.{length-of}
 use Rattle.plan.proofs.Laws.Formed.{limited}
 use Rattle.plan.proofs.Laws.Header.{header-says}
-use Rattle.plan.proofs.Laws.Loops.{all-append, lowest-none}
+use Rattle.plan.proofs.Laws.Loops.{all-of, lowest-none}
 use Rattle.plan.proofs.Laws.Numbered.{every-all, numbered, numbered-length}
 use Rattle.plan.proofs.Laws.Verdict.{all-measured}
 use Rattle.plan.proofs.Laws.Words.{word-read}
@@ -53,18 +53,13 @@ widths-all ws rows narrow a m =
 
 -- ---- the limits
 
--- a test that every number below n passes
-all-below : (p : ℕ → Bool) (n : ℕ) → ((i : ℕ) → i < n → p i ≡ true) → all p (upto n) ≡ true
-all-below p zero h = refl
-all-below p (suc n) h = all-append p (upto n) (n ∷ []) ∙ rw (all-below p n (λ i l. h i (omega arith)), h n (omega arith))
-
 module _ (widths : List ℕ) (ns : List Node) where
   -- what fits passes the test
   fits-within : Fits widths ns [] → withinLimits widths ns ≡ true
   unfolding withinLimits
   fits-within f =
       rw (le-leb (length ns) 256 (f .nodes), le-leb (length (allItems ns)) 2000 (omega (arith, f .items)))
-      (all-below (λ i. leb (shapeAt widths ns i .width) 64) (length ns) (λ i h. le-leb _ _ (f .rows i)))
+      (all-of (λ i. leb (shapeAt widths ns i .width) 64) (every-of (λ i. le-leb _ _ (f .rows i)) (upto (length ns))))
 
   -- what passes the test fits: past the last node there is no row
   within-fits : withinLimits widths ns ≡ true → Fits widths ns []

@@ -30,8 +30,8 @@ use Rattle.rewrite.specs.Closing.{Closes, Copies, closing}
 use Rattle.rewrite.proofs.Laws.Inputs.{inner-within, spotted}
 use Rattle.rewrite.proofs.Laws.Standing.{stands-more}
 use Rattle.rewrite.proofs.Laws.Pages.{fits-front}
-use Rattle.rewrite.proofs.Laws.Put.{page-over, page-then}
-use Rattle.rewrite.proofs.Laws.Fuel.{AtEnd, Extends, extends-dropping, extends-none, extends-one, extends-then, own, put-behind, put-end}
+use Rattle.rewrite.proofs.Laws.Put.{inner-extends, last-is, page-over, page-then}
+use Rattle.rewrite.proofs.Laws.Fuel.{AtEnd, Extends, emit-end, extends-none, extends-one, extends-then, own, put-behind, put-end}
 
 -- ---- what is over a limit stays over
 
@@ -62,7 +62,7 @@ record Steady (out : List Node) (x : Placed) : Type 0 where
   end : AtEnd x
 
 emitted : {out more : List Node} (n : Node) → Extends out more → Steady out (emit n more)
-emitted {more} n e = record { behind = extends-then e (extends-one more n); end = omega (arith, length-append more (n ∷ [])) }
+emitted {more} n e = record { behind = extends-then e (extends-one more n); end = emit-end n more }
 
 dropped : {out : List Node} (k : Kind) (ps : List ℕ) {x : Placed} → Steady out x → Steady out (dropping k ps x)
 dropped inner ps h = emitted _ (h .behind)
@@ -113,11 +113,6 @@ module _ (at : ℕ → Piece) (l r : ℕ) (k : Kind) (xs : List Item) (out : Lis
   unfolding closedNode nodeFor unnest
   closed-inner o q e ks f y g = rw (q, e, g, f)
 
-  -- behind what is there
-  inner-behind : (o : ℕ) → o ≡ 8 → (D : Domain) (ks : List ℕ) (w v i j : ℕ) → Extends out (withInner D ks w v i j (nodeFor o l r k xs) out)
-  unfolding nodeFor
-  inner-behind o q D ks w v i j = rw q (extends-then (extends-one out _) (extends-dropping k _ _))
-
 -- ---- node n of an accepted plan is written
 
 module _ (ws : List ℕ) (a : Accepted ws) (n : ℕ) (h : n < nodes ws) where
@@ -128,12 +123,12 @@ module _ (ws : List ℕ) (a : Accepted ws) (n : ℕ) (h : n < nodes ws) where
   shape i = shapeAt (widthsOf ws) (nodesOf ws) i
 
   -- as a copy
-  pub copy-closes : {nodes₀ nodes₁ items₀ items₁ rows₀ rows₁ images : List ℕ} {c d : Cursor} → (operator ws n ≡ 8 → closed (shape (right ws n)) ≡ true)
-      → GrowsOver (widthsOf ws) nodes₀ nodes₁ items₀ items₁ rows₀ rows₁ c d (λ out. out ++ (copyOf (λ i. getD images i 0) (nodeAt ws n) ∷ []))
+  pub copy-closes : {nodes₀ nodes₁ items₀ items₁ rows₀ rows₁ images : List ℕ} {c d : Cursor} (x : Node) → (operator ws n ≡ 8 → closed (shape (right ws n)) ≡ true)
+      → GrowsOver (widthsOf ws) nodes₀ nodes₁ items₀ items₁ rows₀ rows₁ c d (λ out. out ++ (copyOf (λ i. getD images i 0) x ∷ [])) → x ≡ nodeAt ws n
       → Closes ws images n nodes₀ nodes₁ items₀ items₁ rows₀ rows₁ c d
-  copy-closes {images} e g = record {
-    written = λ out copies page. rw (closed-copy (own ws (λ i. getD images i 0)) (left ws n) (right ws n) (kindOf (kind ws n)) (itemsOf ws n) out (operator ws n) (facts .low) (facts .high) e) (g out page);
-    stays = over-stays (λ out. out ++ (copyOf (λ i. getD images i 0) (nodeAt ws n) ∷ [])) (λ out. extends-one out _) g;
+  copy-closes {images} x e g q = record {
+    written = λ out copies page. rw (closed-copy (own ws (λ i. getD images i 0)) (left ws n) (right ws n) (kindOf (kind ws n)) (itemsOf ws n) out (operator ws n) (facts .low) (facts .high) e, ← q) (g out page);
+    stays = over-stays (λ out. out ++ (copyOf (λ i. getD images i 0) x ∷ [])) (λ out. extends-one out _) g;
   }
 
   -- the inputs of a dependent join
@@ -182,8 +177,7 @@ module _ (ws : List ℕ) (a : Accepted ws) (n : ℕ) (h : n < nodes ws) where
       target out = closed-inner (own ws (λ j. getD images j 0)) (left ws n) (right ws n) (kindOf (kind ws n)) (itemsOf ws n) out (operator ws n) eight opens ks keys (under out) refl
 
       finished-behind : (more : List Node) (wl wr i j : ℕ) → Extends more (withInner outside ks wl wr i j (nodeAt ws n) more)
-      finished-behind more wl wr i j =
-          inner-behind (own ws (λ k. getD images k 0)) (left ws n) (right ws n) (kindOf (kind ws n)) (itemsOf ws n) more (operator ws n) eight outside ks wl wr i j
+      finished-behind more wl wr i j = inner-extends outside ks wl wr i j (nodeAt ws n) more
 
       under-behind : (out : List Node) → Extends (under out .out) (closing ws (λ j. getD images j 0) n out .out)
       under-behind out = rw (target out) (finished-behind (under out .out) w (widthAt ws (right ws n)) at (under out .at))
@@ -231,7 +225,7 @@ module _ (ws : List ℕ) (a : Accepted ws) (n : ℕ) (h : n < nodes ws) where
             -- the right side is the last node
             right-last : y .ok ≡ true → j ≡ under out .at
             right-last e =
-                omega (arith, put-page .holds e .count, put-end ws (a .formed) (λ k. getD images k 0) (right ws n) (right-node eight) (innerDomain outside w reads (length out)) (front out))
+                last-is (under out) put-page (put-end ws (a .formed) (λ k. getD images k 0) (right ws n) (right-node eight) (innerDomain outside w reads (length out)) (front out)) e ej
 
             join-page : Page (widthsOf ws) nodes₃ items₃ rows₃ z (closing ws (λ k. getD images k 0) n out .out) []
             join-page =

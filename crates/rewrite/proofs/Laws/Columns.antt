@@ -17,7 +17,8 @@ use Rattle.algebra.proofs.Lists.Every.{any-none, any-self, every-append, every-
 use Rattle.algebra.proofs.Tables.Tidy.{closed-back, closed-front}
 use Rattle.algebra.proofs.Domains.Keys.{rank-below, ranks, upto-all, upto-below}
 use Rattle.plan.specs.Verdict.{aggregateThere, columnsThere, computationThere, conjunctThere, termThere}
-use Rattle.plan.proofs.Laws.Loops.{all-append}
+use Rattle.plan.proofs.Laws.Loops.{all-append, all-of}
+use Rattle.plan.proofs.Laws.Numbered.{every-all}
 
 -- ---- tests of all elements
 
@@ -26,16 +27,6 @@ pub and-both : (a b : Bool) → a ≡ true → b ≡ true → (a && b) ≡ true
 and-both a b e f = rw (e, f)
 
 module _ {A : Type 0} (p : A → Bool) where
-  -- what passes for every element passes for all
-  pub every-all : {xs : List A} → Every (λ x. p x ≡ true) xs → all p xs ≡ true
-  every-all done = refl
-  every-all (more {x} {xs} h t) = and-both (p x) (all p xs) h (every-all t)
-
-  -- and the other way round
-  pub all-every : (xs : List A) → all p xs ≡ true → Every (λ x. p x ≡ true) xs
-  all-every [] e = done
-  all-every (x ∷ xs) e = more (and-left (p x) (all p xs) e) (all-every xs (and-right (p x) (all p xs) e))
-
   -- two lists behind each other
   pub all-both : (xs ys : List A) → all p xs ≡ true → all p ys ≡ true → all p (xs ++ ys) ≡ true
   all-both xs ys e f = all-append p xs ys ∙ and-both (all p xs) (all p ys) e f
@@ -43,11 +34,11 @@ module _ {A : Type 0} (p : A → Bool) where
 module _ (w : ℕ) where
   -- columns of a row of width w
   pub columns-all : {ps : List ℕ} → Every (λ p. p < w) ps → all (λ p. ltb p w) ps ≡ true
-  columns-all t = every-all (λ p. ltb p w) (every-map (λ p h. lt-ltb p w h) t)
+  columns-all t = all-of (λ p. ltb p w) (every-map (λ p h. lt-ltb p w h) t)
 
   -- and the other way round
   pub columns-every : (ps : List ℕ) → all (λ p. ltb p w) ps ≡ true → Every (λ p. p < w) ps
-  columns-every ps e = every-map (λ p h. ltb-true p w h) (all-every (λ p. ltb p w) ps e)
+  columns-every ps e = every-map (λ p h. ltb-true p w h) (every-all (λ p. ltb p w) ps e)
 
 -- ---- where moved columns stand
 
@@ -78,7 +69,7 @@ first-there D w ps e =
 -- aggregates of columns that move
 pub aggregates-moved : (f : ℕ → ℕ) (w v : ℕ) → ((p : ℕ) → p < w → f p < v) → (gs : List Aggregate) → all (aggregateThere w) gs ≡ true → all (aggregateThere v) (map (moveAggregate f) gs) ≡ true
 unfolding aggregateThere
-aggregates-moved f w v h gs e = every-all (aggregateThere v) (every-mapped (moveAggregate f) (every-map one (all-every (aggregateThere w) gs e)))
+aggregates-moved f w v h gs e = all-of (aggregateThere v) (every-mapped (moveAggregate f) (every-map one (every-all (aggregateThere w) gs e)))
   where
     one : (g : Aggregate) → aggregateThere w g ≡ true → aggregateThere v (moveAggregate f g) ≡ true
     one count t = refl

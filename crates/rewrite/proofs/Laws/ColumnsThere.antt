@@ -1,7 +1,7 @@
--- Every column that a node of the rewriting mentions exists in the rows of its inputs.
+-- A closed node, rewritten, has its columns there, and so has all that is written after one node more.
 use mathlib.Core.Path.{_∙_, _≡_, ap, refl, subst, sym}
 use mathlib.Core.Bool.{Bool, cond, false, true, true≢false}
-use mathlib.Core.List.{List, [], _++_, _∷_, append-assoc, append-nil}
+use mathlib.Core.List.{List, [], _++_, _∷_, append-assoc}
 use Prim.Native.Nat.{_<_, ℕ}
 use native.Mathlib.Nat.{zero-add}
 use native.Mathlib.Omega.{arith}
@@ -13,21 +13,17 @@ use Rattle.algebra.specs.Lists.{Every, done, each, isEmpty, more}
 use Rattle.algebra.specs.Plan.{Conjunct, Kind, Node, compute, dependent, group, groupjoin, join, joinWidth, project, scan, select}
 use Rattle.algebra.specs.Columns.{Shape, conjunctReads, computationReads, past, shapeAt, shapeOf, shapeless}
 use Rattle.algebra.specs.Domains.{outside}
-use Rattle.algebra.specs.Rewriting.{Piece, Placed, State, addPiece, closedNode, closedPut, emit, missing, openUnder, pieceAt, rewritten, step, steps, unnest}
-use Rattle.algebra.specs.Statements.{Fine, FineFrom, WellFormed}
+use Rattle.algebra.specs.Rewriting.{Piece, Placed, State, addPiece, closedNode, closedPut, emit, missing, openUnder, pieceAt, step, unnest}
+use Rattle.algebra.specs.Statements.{Fine}
 use Rattle.algebra.proofs.Lists.Entries.{entry-before}
-use Rattle.algebra.proofs.Lists.Every.{every-append, every-head, every-map, every-mapped, every-tail}
-use Rattle.algebra.proofs.Domains.Keys.{upto-below}
+use Rattle.algebra.proofs.Lists.Every.{every-append, every-in, every-map}
 use Rattle.algebra.proofs.Tables.Tidy.{closed-back, closed-every, closed-front}
-use Rattle.plan.specs.Words.{nodes}
-use Rattle.plan.specs.Plan.{nodeAt, nodesOf, widthsOf}
-use Rattle.plan.specs.Verdict.{columnsRight, columnsThere, scopeOf}
-use Rattle.plan.specs.Promise.{Accepted}
-use Rattle.rewrite.specs.Answer.{newPlan}
+use Rattle.plan.specs.Verdict.{columnsThere}
+use Rattle.algebra.proofs.Tables.Fine.{fine-below}
 use Rattle.rewrite.proofs.Laws.Columns.{columns-closed, columns-same}
 use Rattle.rewrite.proofs.Laws.ColumnsWritten.{Grows, Sits, Sound, Wrote, grows-none, no-node, one-more, sits-closed, sits-grows, widthIn, wrote, wrote-join, wrote-unnest, wrote-width}
 use Rattle.rewrite.proofs.Laws.ColumnsUnder.{open-node}
-use Rattle.rewrite.proofs.Laws.Shaped.{Shaped, every-in, fine-below, shaped-none, shaped-snoc, shapes-are}
+use Rattle.rewrite.proofs.Laws.Shaped.{Shaped, shaped-snoc, shapes-are}
 
 -- ---- closed nodes
 
@@ -136,23 +132,8 @@ module _ (widths : List ℕ) where
   legal-before front back n f legal =
       (legal .0, sym (columns-same (widthIn widths (front ++ back)) (widthIn widths front) (legal .0) n (every-map (λ j h. ap (λ (r : Shape). r .width) (entry-before shapeless (shapeOf widths) front back j h)) (fine-below _ _ n f))) ∙ legal .1)
 
-  -- all nodes, one after the other
-  built-steps : (all ns ms : List Node) (s : State) → ns ++ ms ≡ all → Built ns s → FineFrom widths ns ms → Every (Legal all) ms → Built (ns ++ ms) (steps widths s ms)
-  unfolding steps
-  built-steps all ns [] s e v f l = rw append-nil v
-  built-steps all ns (m ∷ ms) s e v f l =
-      rw append-assoc at
-      (built-steps all (ns ++ (m ∷ [])) ms (step widths s m) (append-assoc ns (m ∷ []) ms ∙ e)
-      (built-step ns s m v (f .0) (legal-before ns (m ∷ ms) m (f .0) (rw e (every-head l)))) (f .1) (every-tail l))
-
-  -- the nodes of the rewriting have their columns
-  rewritten-sound : (ns : List Node) → WellFormed widths ns → Every (Legal ns) ns → Sound widths (rewritten widths ns)
-  unfolding rewritten
-  rewritten-sound ns w l =
-      built-steps ns [] ns (record { out = []; pieces = [] }) refl (record { shaped = shaped-none widths; pieces = done; sound = no-node }) (w .nodes) l .sound
-
-  -- each of them, whatever is written behind
-  sound-at : {out : List Node} → Sound widths out → (rest : List Node) (n : ℕ) (d : Node) → n < length out → columnsThere (widthIn widths (out ++ rest)) [] (getD out n d) ≡ true
+  -- each node of those written, whatever is behind
+  pub sound-at : {out : List Node} → Sound widths out → (rest : List Node) (n : ℕ) (d : Node) → n < length out → columnsThere (widthIn widths (out ++ rest)) [] (getD out n d) ≡ true
   sound-at no-node rest n d h = absurd (omega arith)
   sound-at (one-more out m t b c) rest n d h = go (ltb n (length out)) refl (λ l. sound-at t (m ∷ rest) n d l)
     where
@@ -165,16 +146,3 @@ module _ (widths : List ℕ) where
           let i : n ≡ length out = omega (arith, ltb-false n (length out) e, rw length-append at h) in
           rw (append-assoc out (m ∷ []) rest, getD-at out m [] d n (sym i))
           (columns-same (widthIn widths (out ++ (m ∷ rest))) (widthIn widths out) [] m (every-map (λ j l. ap (λ (r : Shape). r .width) (entry-before shapeless (shapeOf widths) out (m ∷ rest) j l)) b) ∙ c)
-
--- ---- an accepted plan
-
--- its nodes have their columns
-accepted-legal : (ws : List ℕ) → Accepted ws → Every (Legal (widthsOf ws) (nodesOf ws)) (nodesOf ws)
-unfolding columnsRight
-accepted-legal ws a = every-mapped (nodeAt ws) (every-map (λ n h. (scopeOf ws n, a .columns n h)) (upto-below (nodes ws)))
-
--- and so have those of its rewriting
-pub columns-there : (ws : List ℕ) → Accepted ws → (n : ℕ) (d : Node) → n < length (newPlan ws)
-    → columnsThere (λ i. shapeAt (widthsOf ws) (newPlan ws) i .width) [] (getD (newPlan ws) n d) ≡ true
-columns-there ws a n d h =
-    rw append-nil at (sound-at (widthsOf ws) (rewritten-sound (widthsOf ws) (nodesOf ws) (a .plan) (accepted-legal ws a)) [] n d h)

@@ -16,12 +16,14 @@ use Rattle.algebra.proofs.Lists.Same.{and-left, and-right}
 use Rattle.algebra.proofs.Lists.Every.{every-back, every-front, every-map}
 use Rattle.algebra.proofs.Columns.Picked.{length-upto}
 use Rattle.algebra.proofs.Domains.Keys.{upto-below}
+use Rattle.algebra.proofs.Tables.Nodes.{joinWidth-under}
 use Rattle.plan.specs.Verdict.{aggregateThere, columnsThere, conjunctThere}
+use Rattle.rewrite.specs.Pages.{Stands}
 use Rattle.rewrite.proofs.Laws.Columns.{Held, aggregates-moved, and-both, both-there, computation-moved, conjuncts-moved, first-there, inside-held, left-there, match-there}
-use Rattle.rewrite.proofs.Laws.ColumnsWritten.{Grows, Has, Sits, Wrote, grows-both, has-grows, joinWidth-under, wrote, wrote-after, wrote-dropping, wrote-join, wrote-unnest, wrote-width}
+use Rattle.rewrite.proofs.Laws.ColumnsWritten.{Grows, Sits, Wrote, grows-both, stands-grows, wrote, wrote-after, wrote-dropping, wrote-join, wrote-unnest, wrote-width}
 
 module _ (widths : List ℕ) (out : List Node) (at : ℕ → Piece) (count : ℕ) (sits : (i : ℕ) → i < count → Sits widths out (at i))
-    (D : Domain) (before : List Node) (ext : Grows widths out before) (sd : Has widths before (D .node) (D .width)) (scope : List ℕ) where
+    (D : Domain) (before : List Node) (ext : Grows widths out before) (sd : Stands widths before (D .node) (D .width)) (scope : List ℕ) where
   -- the shapes of the pieces
   abbrev sh : ℕ → Shape
   sh i = at i .shape
@@ -68,7 +70,7 @@ module _ (widths : List ℕ) (out : List Node) (at : ℕ → Piece) (count : ℕ
   unfolding openUnder columnsThere
   open-group [] gs i h e g =
       let u = left i h g in
-      let d = has-grows (u .grows) sd in
+      let d = stands-grows (u .grows) sd in
       wrote-after (u .grows)
       (wrote _ _ _ (more (d .inside) (more (u .has .inside) done))
       (rw (d .width, u .has .width)
@@ -100,19 +102,19 @@ module _ (widths : List ℕ) (out : List Node) (at : ℕ → Piece) (count : ℕ
       u = left l hl gl
 
       v : Wrote widths (x .out) y (D .width + sh r .width)
-      v = sits r hr .puts E (x .out) (grows-both ext (u .grows)) (has-grows (u .grows) sd) gr
+      v = sits r hr .puts E (x .out) (grows-both ext (u .grows)) (stands-grows (u .grows) sd) gr
 
       go : (b : Bool) → isEmpty (sh r .reads) ≡ b
           → Wrote widths before (cond b (joinClosed kind cs D x (at r .image)) (joinOpen kind cs (sh l .width) (sh r .width) D (x .at) y)) (D .width + joinWidth kind (sh l .width) (sh r .width))
       go true c =
           wrote-after (u .grows)
           (wrote-width (joinWidth-under kind (D .width) (sh l .width) (sh r .width))
-          (wrote-join kind _ (D .width + sh l .width) (sh r .width) (x .at) (at r .image) (x .out) (u .has) (has-grows (grows-both ext (u .grows)) (sits r hr .copied c)) (left-there D scope (sh l .width) (sh r .width) cs e hc)))
+          (wrote-join kind _ (D .width + sh l .width) (sh r .width) (x .at) (at r .image) (x .out) (u .has) (stands-grows (grows-both ext (u .grows)) (sits r hr .copied c)) (left-there D scope (sh l .width) (sh r .width) cs e hc)))
       go false c =
           wrote-width (joinWidth-under kind (D .width) (sh l .width) (sh r .width))
           (wrote-dropping kind (D .width + sh l .width) (D .width) (sh r .width) before _
           (wrote-after (grows-both (u .grows) (v .grows))
-          (wrote-join kind (underBoth D (sh l .width) cs) (D .width + sh l .width) (D .width + sh r .width) (x .at) (y .at) (y .out) (has-grows (v .grows) (u .has)) (v .has) (both-there D scope (sh l .width) (sh r .width) cs e hc))))
+          (wrote-join kind (underBoth D (sh l .width) cs) (D .width + sh l .width) (D .width + sh r .width) (x .at) (y .at) (y .out) (stands-grows (v .grows) (u .has)) (v .has) (both-there D scope (sh l .width) (sh r .width) cs e hc))))
 
   -- a groupjoin
   open-groupjoin : (cs : List Conjunct) (gs : List Aggregate) (l r : ℕ) → l < count → r < count → Open (groupjoin cs gs l r)
@@ -141,7 +143,7 @@ module _ (widths : List ℕ) (out : List Node) (at : ℕ → Piece) (count : ℕ
       u = left l hl (every-front (sh l .reads) _ hs)
 
       v : Wrote widths (x .out) y (D .width + sh r .width)
-      v = sits r hr .puts D (x .out) (grows-both ext (u .grows)) (has-grows (u .grows) sd) (every-back (sh l .reads) _ hs)
+      v = sits r hr .puts D (x .out) (grows-both ext (u .grows)) (stands-grows (u .grows) sd) (every-back (sh l .reads) _ hs)
 
       go : (b : Bool) → isEmpty (sh r .reads) ≡ b
           → Wrote widths before
@@ -150,11 +152,11 @@ module _ (widths : List ℕ) (out : List Node) (at : ℕ → Piece) (count : ℕ
           (D .width + (sh l .width + length gs))
       go true c =
           let s = u .has in
-          let t = has-grows (grows-both ext (u .grows)) (sits r hr .copied c) in
+          let t = stands-grows (grows-both ext (u .grows)) (sits r hr .copied c) in
           wrote-after (u .grows)
           (wrote _ _ _ (more (s .inside) (more (t .inside) done)) (rw (s .width, t .width) (and-both _ _ (left-there D scope (sh l .width) (sh r .width) cs ec hc) eg)) (rw (s .width) (omega arith)))
       go false c =
-          let s = has-grows (v .grows) (u .has) in
+          let s = stands-grows (v .grows) (u .has) in
           let t = v .has in
           wrote-after (grows-both (u .grows) (v .grows))
           (wrote _ _ _ (more (s .inside) (more (t .inside) done)) (rw (s .width, t .width) (and-both _ _ (both-there D scope (sh l .width) (sh r .width) cs ec hc) (aggregates-there r gs eg))) (rw (s .width, length-map) (omega arith)))

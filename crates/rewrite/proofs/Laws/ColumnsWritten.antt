@@ -15,6 +15,7 @@ use Rattle.algebra.specs.Statements.{InLeft}
 use Rattle.algebra.proofs.Lists.Entries.{entry-before, entry-last}
 use Rattle.algebra.proofs.Columns.Picked.{length-upto}
 use Rattle.plan.specs.Verdict.{columnsThere, conjunctThere}
+use Rattle.rewrite.specs.Pages.{Stands}
 use Rattle.rewrite.proofs.Laws.Columns.{Held, and-both, around-there, columns-all, inner-held, inner-there, keys-below, keys-ranked}
 
 module _ (widths : List ℕ) where
@@ -33,20 +34,15 @@ module _ (widths : List ℕ) where
     pub is : more ≡ out ++ rest
     pub keeps : Sound out → Sound more
 
-  -- node i is there and has width w
-  pub record Has (out : List Node) (i w : ℕ) : Type 0 where
-    pub inside : i < length out
-    pub width : widthIn out i ≡ w
-
   -- what a step has written, and the width of the node meant
   pub record Wrote (out : List Node) (x : Placed) (w : ℕ) : Type 0 where
     pub grows : Grows out (x .out)
-    pub has : Has (x .out) (x .at) w
+    pub has : Stands widths (x .out) (x .at) w
 
   -- a piece: its copy where it is closed, and what it writes under a domain that holds what it reads
   pub record Sits (out : List Node) (p : Piece) : Type 0 where
-    pub copied : isEmpty (p .shape .reads) ≡ true → Has out (p .image) (p .shape .width)
-    pub puts : (D : Domain) (more : List Node) → Grows out more → Has more (D .node) (D .width) → Held D (p .shape .reads) → Wrote more (p .put D more) (D .width + p .shape .width)
+    pub copied : isEmpty (p .shape .reads) ≡ true → Stands widths out (p .image) (p .shape .width)
+    pub puts : (D : Domain) (more : List Node) → Grows out more → Stands widths more (D .node) (D .width) → Held D (p .shape .reads) → Wrote more (p .put D more) (D .width + p .shape .width)
 
 module _ {widths : List ℕ} where
   -- nothing more
@@ -58,15 +54,18 @@ module _ {widths : List ℕ} where
   grows-both {a} f g = record { rest = f .rest ++ g .rest; is = g .is ∙ rw (f .is) (append-assoc a (f .rest) (g .rest)); keeps = λ t. g .keeps (f .keeps t) }
 
   -- a node stays where it is
-  pub has-grows : {out more : List Node} {i w : ℕ} → Grows widths out more → Has widths out i w → Has widths more i w
-  has-grows {out} {more} {i} {w} e s = rw (e .is) (record {
+  pub stands-before : {out : List Node} {i w : ℕ} (rest : List Node) → Stands widths out i w → Stands widths (out ++ rest) i w
+  stands-before {out} {i} rest s = record {
     inside = rw length-append (omega (arith, s .inside));
-    width = ap (λ (r : Shape). r .width) (entry-before shapeless (shapeOf widths) out (e .rest) i (s .inside)) ∙ s .width;
-  })
+    width = ap (λ (r : Shape). r .width) (entry-before shapeless (shapeOf widths) out rest i (s .inside)) ∙ s .width;
+  }
+
+  pub stands-grows : {out more : List Node} {i w : ℕ} → Grows widths out more → Stands widths out i w → Stands widths more i w
+  stands-grows e s = rw (e .is) (stands-before (e .rest) s)
 
   -- so does what a piece knows
   pub sits-grows : {out more : List Node} {p : Piece} → Grows widths out more → Sits widths out p → Sits widths more p
-  sits-grows e s = record { copied = λ c. has-grows e (s .copied c); puts = λ D m f h. s .puts D m (grows-both e f) h }
+  sits-grows e s = record { copied = λ c. stands-grows e (s .copied c); puts = λ D m f h. s .puts D m (grows-both e f) h }
 
   -- one more node
   pub wrote : (out : List Node) (n : Node) (w : ℕ) → Every (λ j. j < length out) (inputs n) → columnsThere (widthIn widths out) [] n ≡ true → widthOf widths (widthIn widths out) n ≡ w → Wrote widths out (emit n out) w
@@ -97,23 +96,16 @@ module _ {widths : List ℕ} where
   wrote-dropping left-outer n m w out x s = wrote-project n m w out x s
 
   -- a join of two nodes in place
-  pub wrote-join : (k : Kind) (cs : List Conjunct) (n m i j : ℕ) (out : List Node) → Has widths out i n → Has widths out j m → all (conjunctThere [] (n + m)) cs ≡ true → Wrote widths out (emit (join k cs i j) out) (joinWidth k n m)
+  pub wrote-join : (k : Kind) (cs : List Conjunct) (n m i j : ℕ) (out : List Node) → Stands widths out i n → Stands widths out j m → all (conjunctThere [] (n + m)) cs ≡ true → Wrote widths out (emit (join k cs i j) out) (joinWidth k n m)
   unfolding columnsThere
   wrote-join k cs n m i j out s t e = wrote out _ _ (more (s .inside) (more (t .inside) done)) (rw (s .width, t .width) e) (rw (s .width, t .width))
 
--- the width of a join with a domain's columns in front
-pub joinWidth-under : (k : Kind) (d l r : ℕ) → joinWidth k (d + l) r ≡ d + joinWidth k l r
-joinWidth-under inner d l r = omega arith
-joinWidth-under semi d l r = refl
-joinWidth-under anti d l r = refl
-joinWidth-under left-outer d l r = omega arith
-
 module _ (widths : List ℕ) where
   -- a closed piece writes the join of a domain with its copy
-  pub sits-closed : (out : List Node) (sh : Shape) (i : ℕ) → Has widths out i (sh .width) → Sits widths out (record { shape = sh; image = i; put = closedPut i })
+  pub sits-closed : (out : List Node) (sh : Shape) (i : ℕ) → Stands widths out i (sh .width) → Sits widths out (record { shape = sh; image = i; put = closedPut i })
   sits-closed out sh i s = record {
     copied = λ c. s;
-    puts = λ D more f d h. wrote-join inner [] (D .width) (sh .width) (D .node) i more d (has-grows f s) refl;
+    puts = λ D more f d h. wrote-join inner [] (D .width) (sh .width) (D .node) i more d (stands-grows f s) refl;
   }
 
   module _ (out : List Node) (at : ℕ → Piece) (count : ℕ) (sits : (i : ℕ) → i < count → Sits widths out (at i)) where
@@ -124,13 +116,13 @@ module _ (widths : List ℕ) where
     -- a dependent join, its left in place: a new domain, the right under it, a join
     pub wrote-unnest : (D : Domain) (kind : Kind) (cs : List Conjunct) (scope : List ℕ) (l r : ℕ) → r < count → Every (λ e. InLeft (sh l .width) (e .level) (e .position)) (sh r .reads)
         → all (conjunctThere scope (sh l .width + sh r .width)) cs ≡ true → Held D (each conjunctReads cs) → Held D (past (sh r .reads))
-        → (x : Placed) → Grows widths out (x .out) → Has widths (x .out) (x .at) (D .width + sh l .width)
+        → (x : Placed) → Grows widths out (x .out) → Stands widths (x .out) (x .at) (D .width + sh l .width)
         → Wrote widths (x .out) (unnest kind cs (at l) (at r) D x) (joinWidth kind (D .width + sh l .width) (sh r .width))
     unfolding unnest columnsThere
     wrote-unnest D kind cs scope l r hr il there hc hp x ex sx =
         wrote-dropping kind (D .width + sh l .width) (length ks) (sh r .width) (x .out) _
         (wrote-after e
-        (wrote-join kind (underInner D (sh l .width) ks cs) (D .width + sh l .width) (length ks + sh r .width) (x .at) _ _ (has-grows e sx) (right .has)
+        (wrote-join kind (underInner D (sh l .width) ks cs) (D .width + sh l .width) (length ks + sh r .width) (x .at) _ _ (stands-grows e sx) (right .has)
         (inner-there D scope (sh l .width) (sh r .width) cs there hc ks (keys-below D (sh l .width) (sh r .reads)) (keys-ranked D (sh l .width) (sh r .reads)))))
       where
         ks : List ℕ

@@ -3,7 +3,7 @@ use mathlib.Core.Path.{_≡_, refl, sym, ap, _∙_}
 use mathlib.Core.Bool.{true}
 use mathlib.Core.Logic.{_⊎_, inl, inr}
 use mathlib.Core.List.{List, [], _∷_, _++_, map}
-use Prim.Native.Nat.{ℕ, suc, _+_, _^_, _≤_, _<_}
+use Prim.Native.Nat.{ℕ, suc, _^_, _≤_, _<_}
 use native.Mathlib.Omega.{arith}
 use lib.ListN.{length, getD, length-map}
 use Rattle.algebra.specs.Lists.{Every, done, more, keep}
@@ -58,9 +58,9 @@ pub no-scan : (o : ℕ) → (o ≡ 5) ⊎ (o ≡ 8) → o ≡ 1 → ⊥
 no-scan o (inl e) f = omega arith
 no-scan o (inr e) f = omega arith
 
--- operators that no arm of the code's match names
-abbrev pub Others : ℕ → Type 0
-Others o = ((Unit × (o ≡ 1 → ⊥)) × ((o ≡ 5) ⊎ (o ≡ 8) → ⊥)) × (o ≡ 7 → ⊥)
+-- the operators with one input: no arm of the code's match names them
+abbrev pub Single : ℕ → Type 0
+Single o = ((Unit × (o ≡ 1 → ⊥)) × ((o ≡ 5) ⊎ (o ≡ 8) → ⊥)) × (o ≡ 7 → ⊥)
 
 -- what is written of a node but its items
 abbrev Written : List ℕ → Head → ℕ → Node → Type 0
@@ -85,10 +85,10 @@ module _ (widths : List ℕ) (images : ℕ → ℕ) (l r k : ℕ) (xs : List Ite
   unfolding nodeFor
   groupjoin-head o extra e f = rw e (refl, refl, refl, refl, f ∙ sym (length-map (keep isAggregate xs) aggregateOf))
 
-  single-head : (o : ℕ) → 1 ≤ o → o ≤ 8 → Others o → Written widths (record { operator = o; left = images l; right = 0; kind = 0 }) 0 (copy o)
+  single-head : (o : ℕ) → 1 ≤ o → o ≤ 8 → Single o → Written widths (record { operator = o; left = images l; right = 0; kind = 0 }) 0 (copy o)
   unfolding nodeFor
   single-head =
-      by-operator (λ o. Others o → Written widths (record { operator = o; left = images l; right = 0; kind = 0 }) 0 (copy o))
+      by-operator (λ o. Single o → Written widths (record { operator = o; left = images l; right = 0; kind = 0 }) 0 (copy o))
       (λ h. absurd (h .0 .0 .1 refl)) (λ h. same) (λ h. same) (λ h. same) (λ h. absurd (h .0 .1 (inl refl))) (λ h. same) (λ h. absurd (h .1 refl)) (λ h. absurd (h .0 .1 (inr refl)))
     where
       same : {o i v : ℕ} → (o ≡ o) × (i ≡ i) × (v ≡ v) × (v ≡ v) × (v ≡ v)
@@ -100,10 +100,7 @@ module _ (ws : List ℕ) (a : Accepted ws) (n : ℕ) (h : n < nodes ws) where
   abbrev facts : NodeFacts ws n
   facts = facts-at ws (a .formed) n h
 
-  -- its items are within the limit, its inputs are nodes
-  pub items-few : firstItem ws n + itemCount ws n ≤ 2000
-  items-few = let l = limited ws (a .formed .sized) in omega (arith, facts .within)
-
+  -- its inputs are nodes
   pub left-few : (o l : ℕ) → o ≡ operator ws n → l ≡ left ws n → (o ≡ 1 → ⊥) → l < 256
   left-few o l eo el e = let g = limited ws (a .formed .sized) in omega (arith, facts .left-node (λ q. e (eo ∙ q)))
 
@@ -148,14 +145,15 @@ module _ (ws : List ℕ) (a : Accepted ws) (n : ℕ) (h : n < nodes ws) where
           (rw el (scan-head (widthsOf ws) images (left ws n) (right ws n) (kind ws n) (itemsOf ws n) (operator ws n) extra f
           (w ∙ rw el (sym (numbered-at (tableWidth ws) (tables ws) (left ws n) 0 (facts .left-table f))))))
 
-      pub copied-join : (i r j k : ℕ) → (o ≡ 5) ⊎ (o ≡ 8) → i ≡ images l → r ≡ right ws n → j ≡ images r → k ≡ kind ws n
-          → Pushed nodes₀ nodes₁ rows₀ rows₁ d e (c .items) (record { operator = 5; left = i; right = j; kind = k }) 0
+      pub copied-join : (p i r j k : ℕ) → (o ≡ 5) ⊎ (o ≡ 8) → i ≡ images l → r ≡ right ws n → j ≡ images r → k ≡ kind ws n
+          → Pushed nodes₀ nodes₁ rows₀ rows₁ d e (c .items) (record { operator = p; left = i; right = j; kind = k }) 0 → p ≡ 5
           → GrowsOver (widthsOf ws) nodes₀ nodes₁ items₀ items₁ rows₀ rows₁ c e (λ out. out ++ (written ∷ []))
-      copied-join i r j k q ei er ej ek =
+      copied-join p i r j k q ei er ej ek pushed ep =
           let f : (operator ws n ≡ 5) ⊎ (operator ws n ≡ 8) = rw eo at q in
           copied _ 0
-          (rw (ei, el, ej, er, ek) (join-head (widthsOf ws) images (left ws n) (right ws n) (kind ws n) (itemsOf ws n) (operator ws n) f
+          (rw (ep, ei, el, ej, er, ek) (join-head (widthsOf ws) images (left ws n) (right ws n) (kind ws n) (itemsOf ws n) (operator ws n) f
           (kind-again (kind ws n) (facts .kind-low (kinded (operator ws n) f)) (facts .kind-high (kinded (operator ws n) f)))))
+          pushed
 
       pub copied-groupjoin : (i r j extra : ℕ) → o ≡ 7 → i ≡ images l → r ≡ right ws n → j ≡ images r → extra ≡ length (keep isAggregate (itemsFrom ws x y))
           → Pushed nodes₀ nodes₁ rows₀ rows₁ d e (c .items) (record { operator = 7; left = i; right = j; kind = 0 }) extra
@@ -164,7 +162,7 @@ module _ (ws : List ℕ) (a : Accepted ws) (n : ℕ) (h : n < nodes ws) where
           copied _ extra
           (rw (ei, el, ej, er) (groupjoin-head (widthsOf ws) images (left ws n) (right ws n) (kind ws n) (itemsOf ws n) (operator ws n) extra (sym eo ∙ q) (w ∙ rw (ex, ey))))
 
-      pub copied-other : (i : ℕ) → Others o → i ≡ images l → Pushed nodes₀ nodes₁ rows₀ rows₁ d e (c .items) (record { operator = o; left = i; right = 0; kind = 0 }) 0
+      pub copied-other : (i : ℕ) → Single o → i ≡ images l → Pushed nodes₀ nodes₁ rows₀ rows₁ d e (c .items) (record { operator = o; left = i; right = 0; kind = 0 }) 0
           → GrowsOver (widthsOf ws) nodes₀ nodes₁ items₀ items₁ rows₀ rows₁ c e (λ out. out ++ (written ∷ []))
       copied-other i q ei =
           copied _ 0

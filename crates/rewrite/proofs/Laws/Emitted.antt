@@ -11,16 +11,16 @@ use borrow.Author.Tests.{eqb-true}
 use Rattle.algebra.specs.Lists.{keep, all, upto}
 use Rattle.algebra.specs.Plan.{Aggregate, group}
 use Rattle.algebra.specs.Domains.{Domain, moveComputation, moveAggregate, shift, shiftBoth, span, domainFirst, match}
-use Rattle.algebra.proofs.Lists.Keep.{keep-same, map-append}
+use Rattle.algebra.proofs.Lists.Keep.{map-append}
 use Rattle.plan.specs.Words.{Item, operator, left, right, kind, itemsFrom}
-use Rattle.plan.specs.Items.{between, isKey, positionOf, aggregateOf, conjunctsIn, keysIn, aggregatesIn, conjunctRight, computationRight, keyRight}
+use Rattle.plan.specs.Items.{isKey, positionOf, aggregateOf, conjunctsIn, keysIn, aggregatesIn, conjunctRight, computationRight, keyRight}
 use Rattle.plan.specs.Plan.{computationIn, nodeFor, nodeAt, kindOf}
 use Rattle.plan.specs.Verdict.{hasRight, itemsRight}
 use Rattle.plan.specs.Encoding.{conjunctWords, computationWords, positionWords, aggregateWords}
 use Rattle.plan.proofs.Laws.Header.{both}
 use Rattle.plan.proofs.Laws.Numbered.{every-all}
 use Rattle.plan.proofs.Laws.Formed.{by-operator, facts-at}
-use Rattle.plan.proofs.Laws.Items.{items-length, tagsIn, between-one}
+use Rattle.plan.proofs.Laws.Items.{items-length, tagsIn, keys-in}
 use Rattle.rewrite.specs.Items.{itemWords, shiftedWords, movedWords}
 use Rattle.rewrite.specs.Under.{overInput}
 use Rattle.rewrite.proofs.Laws.Sorted.{Parted, Read, node-is, group-parted, outputs}
@@ -31,10 +31,6 @@ over-keys : (D : Domain) (i j : ℕ) (gs : List Aggregate) (ks : List ℕ) → (
     → overInput D i (group ks gs j) ≡ group (domainFirst D ks) (map (moveAggregate (shift (D .width))) gs) i
 over-keys D i j gs [] f = absurd (f refl)
 over-keys D i j gs (k ∷ ks) f = refl
-
--- how many keys there are
-keys-in : (ws : List ℕ) (a count : ℕ) → length (keep isKey (itemsFrom ws a count)) ≡ tagsIn ws a 11 11 count
-keys-in ws a count = ap length (keep-same isKey (λ x. between 11 11 (x .tag)) (itemsFrom ws a count) (λ x. sym (between-one 11 (x .tag))))
 
 -- the aggregates behind m items of another sort
 module _ (ws : List ℕ) (a count : ℕ) (p s : Item → Bool) (m : ℕ) (parted : Parted ws a count p s m) where

@@ -6,12 +6,12 @@ use Prim.Native.Nat.{_<_, _≤_, suc, zero, ℕ}
 use native.Mathlib.Omega.{arith}
 use lib.Dec.{eqb}
 use lib.ListN.{length, length-append}
-use Rattle.algebra.specs.Lists.{Every, any, isEmpty}
-use Rattle.algebra.specs.Plan.{Conjunct, Kind, Node, anti, compute, dependent, group, groupjoin, inner, inputs, join, left-outer, project, scan, select, semi}
+use Rattle.algebra.specs.Lists.{any, isEmpty}
+use Rattle.algebra.specs.Plan.{Conjunct, Kind, Node, anti, compute, dependent, group, groupjoin, inner, join, left-outer, project, scan, select, semi}
 use Rattle.algebra.specs.Columns.{Column, Shape, closed, readsLeft, readsOf, shapeAt}
 use Rattle.algebra.specs.Domains.{Domain, domainKeys, innerDomain, inside, moveAggregate, moveConjunct, shift, underBoth, underInner}
 use Rattle.algebra.specs.Rewriting.{Piece, Placed, closedPut, dropping, emit, joinClosed, joinOpen, joinUnder, openUnder, unnest}
-use Rattle.algebra.proofs.Lists.Every.{every-head, every-map, every-tail}
+use Rattle.algebra.proofs.Lists.Every.{every-map}
 use Rattle.plan.specs.Words.{Item, itemsOf, kind, left, nodes, operator, right}
 use Rattle.plan.specs.Items.{aggregatesIn, keysIn}
 use Rattle.plan.specs.Plan.{kindOf, nodeAt, nodeFor, nodesOf, widthsOf}
@@ -19,21 +19,9 @@ use Rattle.plan.specs.Verdict.{hasRight}
 use Rattle.plan.specs.Promise.{Formed}
 use Rattle.plan.proofs.Laws.Formed.{NodeFacts, by-operator, facts-at, inputs-below, shape-of}
 use Rattle.rewrite.specs.Under.{overInput, piece, put, withCopy, withInner, withOpen}
+use Rattle.rewrite.proofs.Laws.Alike.{open-alike}
 
 -- ---- fuel
-
--- an open node looks only at its inputs
-open-same : (at bt : ℕ → Piece) (n : Node) → Every (λ i. at i ≡ bt i) (inputs n) → (D : Domain) (out : List Node) → openUnder at n D out ≡ openUnder bt n D out
-unfolding openUnder joinUnder joinClosed joinOpen unnest
-open-same at bt (scan t) h D out = refl
-open-same at bt (select cs i) h D out = rw (every-head h)
-open-same at bt (compute c i) h D out = rw (every-head h)
-open-same at bt (project ps i) h D out = rw (every-head h)
-open-same at bt (join k cs l r) h D out = rw (every-head h, every-head (every-tail h))
-open-same at bt (group [] gs i) h D out = rw (every-head h)
-open-same at bt (group (k ∷ ks) gs i) h D out = rw (every-head h)
-open-same at bt (groupjoin cs gs l r) h D out = rw (every-head h, every-head (every-tail h))
-open-same at bt (dependent k cs l r) h D out = rw (every-head h, every-head (every-tail h))
 
 module _ (ws : List ℕ) (f : Formed ws) (images : ℕ → ℕ) where
   -- fuel for the nodes below is enough
@@ -47,8 +35,8 @@ module _ (ws : List ℕ) (f : Formed ws) (images : ℕ → ℕ) where
       fun-ext
       (λ out.
       ap (λ (x : Placed). cond (closed (shapeAt (widthsOf ws) (nodesOf ws) n)) (closedPut (images n) D out) x)
-      (open-same (piece ws images a) (piece ws images b) (nodeAt ws n)
-      (every-map (λ i g. ap (λ (x : Domain → List Node → Placed). record { shape = shapeAt (widthsOf ws) (nodesOf ws) i; image = images i; put = x }) (fuel a b i (omega arith) (omega arith) (omega arith))) (inputs-below ws f n h))
+      (open-alike (piece ws images a) (piece ws images b) (nodeAt ws n)
+      (every-map (λ i g. record { shape = refl; image = λ t. refl; put = (fuel a b i (omega arith) (omega arith) (omega arith)) }) (inputs-below ws f n h))
       D out)))
 
 -- node i with just enough fuel
@@ -66,8 +54,8 @@ module _ (ws : List ℕ) (f : Formed ws) (images : ℕ → ℕ) (n : ℕ) (h : n
   unfolding put
   put-open e =
       rw e
-      (open-same (piece ws images n) (own ws images) (nodeAt ws n)
-      (every-map (λ i g. ap (λ (x : Domain → List Node → Placed). record { shape = shapeAt (widthsOf ws) (nodesOf ws) i; image = images i; put = x }) (fuel ws f images n (suc i) i (omega arith) g (omega arith))) (inputs-below ws f n h))
+      (open-alike (piece ws images n) (own ws images) (nodeAt ws n)
+      (every-map (λ i g. record { shape = refl; image = λ t. refl; put = (fuel ws f images n (suc i) i (omega arith) g (omega arith)) }) (inputs-below ws f n h))
       D out)
 
 -- ---- what is put goes behind what is there
@@ -179,7 +167,7 @@ module _ (ws : List ℕ) (images : ℕ → ℕ) where
 abbrev pub AtEnd : Placed → Type 0
 AtEnd x = suc (x .at) ≡ length (x .out)
 
-emit-end : (n : Node) (out : List Node) → AtEnd (emit n out)
+pub emit-end : (n : Node) (out : List Node) → AtEnd (emit n out)
 emit-end n out = omega (arith, length-append out (n ∷ []))
 
 dropping-end : (k : Kind) (ps : List ℕ) (n : Node) (out : List Node) → AtEnd (dropping k ps (emit n out))

@@ -1,31 +1,32 @@
 -- What the inputs of a node read: low levels, small positions, and where they stand in the domain that the node puts them under.
 use mathlib.Core.Path.{_≡_, ap, refl, sym}
 use mathlib.Core.Bool.{Bool, _&&_, cond, false, true, true≢false}
-use mathlib.Core.List.{List, [], _++_, _∷_, append-assoc}
-use Prim.Native.Nat.{_+_, _<_, _≤_, suc, zero, ℕ}
-use native.Mathlib.Nat.{add-zero, zero-add}
+use mathlib.Core.List.{List, [], _++_, _∷_}
+use Prim.Native.Nat.{_<_, _≤_, suc, zero, ℕ}
+use native.Mathlib.Nat.{zero-add}
 use native.Mathlib.Omega.{arith}
-use lib.Dec.{eqb, ltb}
-use lib.ListN.{getD, length, length-append}
+use lib.Dec.{eqb}
+use lib.ListN.{getD}
 use borrow.Author.Tests.{eq-eqb, eqb-true, ltb-true}
 use Rattle.algebra.specs.Lists.{Every, all, done, each, more}
 use Rattle.algebra.specs.Plan.{Computation, Conjunct, Kind, Node, Term, add, column, compute, constant, copy, dependent, group, groupjoin, inputs, join, nothing, outer, project, scan, select, subtract}
-use Rattle.algebra.specs.Columns.{Column, Shape, computationReads, conjunctReads, past, pastOne, readsLeft, readsOf, shapeAt, shapeOf, shapeless, termReads}
+use Rattle.algebra.specs.Columns.{Column, Shape, computationReads, conjunctReads, past, pastOne, readsLeft, readsOf, shapeAt, termReads}
 use Rattle.algebra.specs.Domains.{Domain, innerDomain, inside}
-use Rattle.algebra.specs.Statements.{Fine, FineFrom, InLeft}
-use Rattle.algebra.proofs.Lists.Entries.{entry-before}
+use Rattle.algebra.specs.Statements.{Fine, InLeft}
 use Rattle.algebra.proofs.Lists.Same.{and-left, and-right}
 use Rattle.algebra.proofs.Lists.Every.{every-append, every-at, every-back, every-both, every-each, every-front, every-head, every-map, every-tail, every-uneach}
 use Rattle.plan.specs.Words.{Item, itemsOf, kind, left, nodes, operator, right}
 use Rattle.plan.specs.Items.{conjunctsIn}
 use Rattle.plan.specs.Plan.{computationIn, kindOf, nodeAt, nodeFor, nodesOf, widthsOf}
-use Rattle.plan.specs.Verdict.{columnsRight, columnsThere, computationThere, conjunctThere, hasRight, isOpen, isRightSide, scope, scopeOf, termThere, userOf, widthAt}
+use Rattle.plan.specs.Verdict.{columnsRight, columnsThere, computationThere, conjunctThere, hasRight, scopeOf, termThere, widthAt}
 use Rattle.plan.specs.Promise.{Accepted}
 use Rattle.plan.proofs.Laws.Formed.{NodeFacts, by-operator, facts-at, inputs-below, mapped-at, nodes-length, shape-of}
 use Rattle.rewrite.specs.Reads.{Spotted, readsAt}
 use Rattle.rewrite.specs.Under.{Within}
+use Rattle.algebra.proofs.Tables.Fine.{fine-at}
 use Rattle.rewrite.proofs.Laws.Columns.{inner-held, inside-held, spot-below}
-use Rattle.rewrite.proofs.Laws.Reads.{reads-low}
+use Rattle.rewrite.proofs.Laws.ColumnsRead.{reads-low}
+use Rattle.rewrite.proofs.Laws.Small.{around-narrow}
 
 -- ---- positions are below 64
 
@@ -81,29 +82,12 @@ node-small width around narrow at (groupjoin cs gs l r) e s =
 node-small width around narrow at (dependent k cs l r) e s = every-append (conjuncts-small around _ narrow cs e) (every-append (every-head s) (past-small (every-head (every-tail s))))
 
 module _ (ws : List ℕ) (a : Accepted ws) where
-  -- the rows around a node are narrow
-  scope-narrow : (fuel m : ℕ) → Every (λ v. v ≤ 64) (scope ws fuel m)
-  unfolding scope
-  scope-narrow zero m = done
-  scope-narrow (suc fuel) m = go (isOpen ws m) (ltb (userOf ws m) (nodes ws)) refl (isRightSide ws (userOf ws m) m) refl (scope-narrow fuel (userOf ws m))
-    where
-      go : (o t : Bool) → ltb (userOf ws m) (nodes ws) ≡ t → (b : Bool) → isRightSide ws (userOf ws m) m ≡ b → {beyond : List ℕ} → Every (λ v. v ≤ 64) beyond
-          → Every (λ v. v ≤ 64) (cond (o && t) (cond b (widthAt ws (left ws (userOf ws m)) ∷ beyond) beyond) [])
-      go false t e b q s = done
-      go true false e b q s = done
-      go true true e false q s = s
-      go true true e true q s =
-          let h : userOf ws m < nodes ws = ltb-true _ _ e in
-          let o : operator ws (userOf ws m) ≡ 8 = eqb-true _ _ (and-left (eqb (operator ws (userOf ws m)) 8) _ q) in
-          let l : left ws (userOf ws m) < userOf ws m = facts-at ws (a .formed) (userOf ws m) h .left-node (λ p. omega arith) in
-          more (a .narrow (left ws (userOf ws m)) (omega arith)) s
-
   small-within : (bound n : ℕ) → n < bound → n < nodes ws → Small (readsAt ws n)
   unfolding columnsRight
   small-within zero n l h = absurd (omega arith)
   small-within (suc bound) n l h =
       rw (ap (λ (s : Shape). s .reads) (shape-of ws (a .formed) n h))
-      (node-small (widthAt ws) (scopeOf ws n) (scope-narrow (nodes ws) n) (readsAt ws) (nodeAt ws n) (a .columns n h)
+      (node-small (widthAt ws) (scopeOf ws n) (around-narrow ws a (nodes ws) n) (readsAt ws) (nodeAt ws n) (a .columns n h)
       (every-map (λ m g. small-within bound m (omega arith) (omega arith)) (inputs-below ws (a .formed) n h)))
 
   -- what a node reads has small positions
@@ -140,26 +124,6 @@ module _ {P : Column → Type 0} (at : ℕ → List Column) (l r : ℕ) (k : Kin
       (λ e t. every-back (at l) _ (every-back (each conjunctReads (conjunctsIn xs)) _ t))
 
 -- ---- what the right side of a dependent join reads of the left row is there
-
-module _ (widths : List ℕ) where
-  fine-behind : (front back : List Node) (n : Node) → Fine (shapeAt widths front) (length front) n → Fine (shapeAt widths (front ++ back)) (length front) n
-  fine-behind front back (scan t) f = f
-  fine-behind front back (select cs i) f = f
-  fine-behind front back (compute c i) f = f
-  fine-behind front back (project ps i) f = f
-  fine-behind front back (join k cs l r) f = f
-  fine-behind front back (group ks gs i) f = f
-  fine-behind front back (groupjoin cs gs l r) f = f
-  fine-behind front back (dependent k cs l r) f =
-      (f .0, f .1, rw (entry-before shapeless (shapeOf widths) front back l (f .0), entry-before shapeless (shapeOf widths) front back r (f .1)) (f .2))
-
-  -- a node of a fine plan
-  fine-at : (d : Node) (front ns : List Node) → FineFrom widths front ns → (i : ℕ) → i < length ns → Fine (shapeAt widths (front ++ ns)) (length front + i) (getD ns i d)
-  fine-at d front [] f i h = absurd (omega arith)
-  fine-at d front (n ∷ ns) f zero h = rw add-zero (fine-behind front (n ∷ ns) n (f .0))
-  fine-at d front (n ∷ ns) f (suc i) h =
-      let q : length (front ++ (n ∷ [])) + i ≡ length front + suc i = rw length-append (omega arith) in
-      rw (append-assoc front (n ∷ []) ns, q) at (fine-at d (front ++ (n ∷ [])) ns (f .1) i (omega arith))
 
 in-left-of : (sh : ℕ → Shape) (c l r : ℕ) (k : Kind) (xs : List Item) (o : ℕ) → o ≡ 8 → Fine sh c (nodeFor o l r k xs) → Every (λ e. InLeft (sh l .width) (e .level) (e .position)) (sh r .reads)
 unfolding nodeFor

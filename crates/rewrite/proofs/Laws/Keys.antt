@@ -21,7 +21,7 @@ use Rattle.rewrite.specs.Sets.{inSet, members}
 use Rattle.rewrite.specs.Domains.{placeIn, Means}
 use Rattle.rewrite.specs.Reads.{readsAt, reads, ReadsTable, Spotted}
 use Rattle.rewrite.proofs.Laws.Sets.{in-with}
-use Rattle.rewrite.proofs.Laws.Reads.{any-append, cond-or}
+use Rattle.rewrite.proofs.Laws.ColumnsRead.{any-append, cond-or}
 
 -- ---- where a column stands
 

@@ -2,7 +2,7 @@
 use mathlib.Core.Path.{_∙_, _≡_, ap, refl, sym}
 use mathlib.Core.Bool.{Bool, _&&_, cond, false, not, true, true≢false}
 use mathlib.Core.List.{List, [], _∷_}
-use Prim.Native.Nat.{_*_, _+_, _<_, suc, zero, ℕ}
+use Prim.Native.Nat.{_*_, _<_, suc, zero, ℕ}
 use native.Mathlib.Nat.{add-zero}
 use native.Mathlib.Omega.{arith}
 use lib.Dec.{eqb, ltb}
@@ -15,11 +15,13 @@ use Rattle.algebra.proofs.Lists.Every.{every-head, every-tail}
 use Rattle.plan.specs.Words.{nodes, operator, right}
 use Rattle.plan.specs.Plan.{nodesOf, widthsOf}
 use Rattle.plan.specs.Promise.{Accepted}
-use Rattle.plan.proofs.Laws.Formed.{facts-at, limited}
+use Rattle.plan.proofs.Laws.Formed.{facts-at}
 use Rattle.rewrite.specs.declared.domain.Domain.{Domain}
 use Rattle.rewrite.specs.Sets.{bitOf, inSet, rank}
 use Rattle.rewrite.specs.Domains.{Means, Sound, placeIn}
 use Rattle.rewrite.specs.Reads.{ReadsTable, reads, readsAt}
+use Rattle.rewrite.proofs.Laws.Sets.{rank-step}
+use Rattle.rewrite.proofs.Laws.Limits.{node-index}
 use Rattle.rewrite.proofs.Laws.Inputs.{reads-small}
 
 -- ---- the domain of a right side
@@ -40,19 +42,15 @@ module _ {d : Domain} (s : Sound d) {o m : ℕ} (e : o ≡ m) where
 
 -- ---- a set without members
 
-rank-more : (s k : ℕ) → rank s (suc k) ≡ rank s k + bitOf s k
-unfolding rank
-rank-more s k = refl
-
 rank-zero : (s k : ℕ) → rank s k ≡ 0 → (p : ℕ) → p < k → inSet s p ≡ false
 rank-zero s zero e p h = absurd (omega arith)
-rank-zero s (suc k) e p h = go (ltb p k) refl (rank-zero s k (omega (arith, rank-more s k)) p)
+rank-zero s (suc k) e p h = go (ltb p k) refl (rank-zero s k (omega (arith, rank-step s k)) p)
   where
     go : (b : Bool) → ltb p k ≡ b → (p < k → inSet s p ≡ false) → inSet s p ≡ false
     go true t rest = rest (ltb-true p k t)
     go false t rest =
         let q : p ≡ k = omega (arith, ltb-false p k t) in
-        let none : bitOf s k ≡ 0 = omega (arith, rank-more s k) in
+        let none : bitOf s k ≡ 0 = omega (arith, rank-step s k) in
         rw (q, none)
 
 zero-rank : (s k : ℕ) → ((p : ℕ) → p < k → inSet s p ≡ false) → rank s k ≡ 0
@@ -93,7 +91,7 @@ module _ (ws : List ℕ) (a : Accepted ws) (n : ℕ) (h : n < nodes ws) {o : ℕ
     right-node = let below = facts-at ws (a .formed) n h .right-node (rw (sym e ∙ q)) in omega arith
 
     pub right-index : 8 * i < 2048
-    right-index = omega (arith, right-node, limited ws (a .formed .sized) .nodes-few)
+    right-index = omega (arith, node-index ws a (right ws n) right-node (ei ∙ er))
 
     -- the number of positions that the table has
     pub left-read : (table : List ℕ) → ReadsTable ws (nodes ws) table → {k : ℕ} → k ≡ rank (getD table (8 * i) 0) 64

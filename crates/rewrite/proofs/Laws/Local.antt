@@ -2,15 +2,15 @@
 use mathlib.Core.Path.{_≡_, refl, sym}
 use mathlib.Core.Bool.{_&&_, true, true≢false}
 use mathlib.Core.List.{List, [], _++_, _∷_, append-assoc, append-nil}
-use Prim.Native.Nat.{_+_, _<_, suc, zero, ℕ}
+use Prim.Native.Nat.{_+_, _<_, suc, ℕ}
 use native.Mathlib.Nat.{add-zero, zero-add}
 use native.Mathlib.Omega.{arith}
 use lib.ListN.{getD, length, length-append}
 use borrow.Author.Tests.{ltb-true}
 use Rattle.algebra.specs.Lists.{Every, all, done, each, isEmpty, more}
 use Rattle.algebra.specs.Plan.{Computation, Conjunct, Node, Term, add, column, compute, constant, copy, dependent, group, groupjoin, inputs, join, nothing, outer, project, scan, select, subtract}
-use Rattle.algebra.specs.Columns.{computationReads, conjunctReads, shapeAt, termReads}
-use Rattle.algebra.specs.Statements.{FineFrom, Plain}
+use Rattle.algebra.specs.Columns.{computationReads, conjunctReads, termReads}
+use Rattle.algebra.specs.Statements.{Plain}
 use Rattle.algebra.proofs.Lists.Same.{and-left, and-right}
 use Rattle.algebra.proofs.Lists.Every.{every-append, every-head, every-tail}
 use Rattle.algebra.proofs.Tables.Tidy.{Ordered, Tidy, closed-append, closed-back, closed-front, no-node, one-more}
@@ -18,7 +18,6 @@ use Rattle.plan.specs.Verdict.{columnsThere, computationThere, conjunctThere, t
 use Rattle.plan.specs.Encoding.{computationTerms, conjunctTerms, termsOf}
 use Rattle.plan.proofs.Laws.Meets.{Levelled, Placed}
 use Rattle.rewrite.proofs.Laws.Sensible.{Sensible}
-use Rattle.rewrite.proofs.Laws.Shaped.{fine-below}
 
 -- ---- where nothing stands around, no outer column exists
 
@@ -77,14 +76,6 @@ module _ (d : Node) where
   -- nodes each of which may stand where it does
   pub ordered-all : (ns : List Node) → ((i : ℕ) → i < length ns → Tidy i (getD ns i d)) → Ordered ns
   ordered-all ns h = ordered-behind [] ns no-node (λ i l. rw zero-add (h i l))
-
-  -- the inputs of a node of a fine plan are before it
-  pub inputs-before : (widths : List ℕ) (front ns : List Node) → FineFrom widths front ns → (i : ℕ) → i < length ns → Every (λ j. j < length front + i) (inputs (getD ns i d))
-  inputs-before widths front [] f i h = absurd (omega arith)
-  inputs-before widths front (n ∷ ns) f zero h = rw add-zero (fine-below (shapeAt widths front) (length front) n (f .0))
-  inputs-before widths front (n ∷ ns) f (suc i) h =
-      let q : length (front ++ (n ∷ [])) + i ≡ length front + suc i = rw length-append (omega arith) in
-      rw q at (inputs-before widths (front ++ (n ∷ [])) ns (f .1) i (omega arith))
 
 -- ---- what the check of the nodes asks
 

@@ -1,33 +1,24 @@
 -- Terms and items whose columns moved, as words.
 use mathlib.Core.Path.{_≡_, refl, sym, ap, _∙_}
-use mathlib.Core.Bool.{Bool, true, false, cond, _&&_, _||_}
+use mathlib.Core.Bool.{Bool, true, false, _&&_, _||_}
 use mathlib.Core.List.{List, [], _∷_, _++_, map}
-use Prim.Native.Nat.{ℕ, _+_, _-_, _^_, _≤_, _<_}
+use Prim.Native.Nat.{ℕ, _+_, _^_, _≤_, _<_}
 use native.Mathlib.Omega.{arith}
-use lib.Dec.{leb, ltb, eqb}
-use lib.IntN.{pos, negsuc}
+use lib.Dec.{leb, eqb}
 use borrow.Author.Tests.{leb-true, eqb-true, ne-eqb}
 use Rattle.algebra.specs.Domains as algebra
 use Rattle.algebra.specs.Lists.{upto}
 use Rattle.algebra.proofs.Lists.Keep.{map-map}
 use Rattle.algebra.proofs.Lists.Same.{and-left, and-right}
 use Rattle.plan.specs.Words.{Three, Item, itemAt, itemsFrom}
-use Rattle.plan.specs.Items.{signed, termOf, termRight}
-use Rattle.plan.specs.Encoding.{unsigned, termWords}
+use Rattle.plan.specs.Items.{termOf, termRight}
+use Rattle.plan.specs.Encoding.{termWords}
+use Rattle.plan.proofs.Laws.Restored.{constant-again}
 use Rattle.rewrite.specs.declared.page.Three as code
 use Rattle.rewrite.specs.declared.page.Cursor.{Cursor}
 use Rattle.rewrite.specs.Pages.{Added}
 use Rattle.rewrite.specs.Items.{movedWords}
 use Rattle.rewrite.proofs.Laws.Writer.{added-same, ended, Local, wordsOf}
-
--- a constant is written as the word that it was read from
-constant-again : (x : ℕ) → x < 2 ^ 32 → unsigned (signed x) ≡ x
-unfolding signed
-constant-again x h = go (ltb x (2 ^ 31)) refl
-  where
-    go : (b : Bool) → ltb x (2 ^ 31) ≡ b → unsigned (cond b (pos x) (negsuc (2 ^ 32 - 1 - x))) ≡ x
-    go true e = refl
-    go false e = omega arith
 
 -- a constant or null stays
 kept : (D : algebra.Domain) (f : ℕ → ℕ) (t : Three) → (t .code ≡ 0 → ⊥) → (t .code ≡ 1 → ⊥) → termRight t ≡ true → t .value < 2 ^ 32

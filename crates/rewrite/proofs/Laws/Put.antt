@@ -18,7 +18,7 @@ use Rattle.plan.specs.Plan.{nodeAt, nodesOf, widthsOf}
 use Rattle.plan.specs.Verdict.{hasRight, widthAt}
 use Rattle.plan.specs.Promise.{Accepted}
 use Rattle.plan.specs.Passes.{Reaches, Widths, reach}
-use Rattle.plan.proofs.Laws.Formed.{NodeFacts, facts-at, limited}
+use Rattle.plan.proofs.Laws.Formed.{NodeFacts, facts-at}
 use Rattle.rewrite.specs.declared.domain.Domain.{Domain}
 use Rattle.rewrite.specs.declared.page.Cursor.{Cursor}
 use Rattle.rewrite.specs.Sets.{members, rank}
@@ -53,7 +53,7 @@ page-then widths nodes nodes′ items items′ rows rows′ c c′ f out meant g
     go false q false q′ = rw (y .is) (over-more widths nodes items rows nodes′ items′ rows′ c c′ out (y .rest) q q′ p)
 
 -- the last node of a page that holds
-last-is : {widths nodes items rows : List ℕ} {c : Cursor} (x : Placed) {i : ℕ} → Page widths nodes items rows c (x .out) [] → AtEnd x → c .ok ≡ true → i ≡ pred (c .nodes) → i ≡ x .at
+pub last-is : {widths nodes items rows : List ℕ} {c : Cursor} (x : Placed) {i : ℕ} → Page widths nodes items rows c (x .out) [] → AtEnd x → c .ok ≡ true → i ≡ pred (c .nodes) → i ≡ x .at
 last-is x p e ok q = omega (arith, p .holds ok .count)
 
 -- ---- open and closed
@@ -107,7 +107,7 @@ open-extends D wl wr i j (group ks gs m) out = extends-none
 open-extends D wl wr i j (groupjoin cs gs l r) out = extends-one _ _
 open-extends D wl wr i j (dependent k cs l r) out = extends-then (extends-one _ _) (extends-dropping k _ _)
 
-inner-extends : (D : algebra.Domain) (ks : List ℕ) (wl wr i j : ℕ) (n : Node) (out : List Node) → Extends out (withInner D ks wl wr i j n out)
+pub inner-extends : (D : algebra.Domain) (ks : List ℕ) (wl wr i j : ℕ) (n : Node) (out : List Node) → Extends out (withInner D ks wl wr i j n out)
 inner-extends D ks wl wr i j (scan t) out = extends-none
 inner-extends D ks wl wr i j (select cs m) out = extends-none
 inner-extends D ks wl wr i j (compute c m) out = extends-none
@@ -325,11 +325,7 @@ module _ (ws : List ℕ) (n : ℕ) {b : Bool} (e : b ≡ (eqb (operator ws n) 8 
   reads-none t q = (rw (eq-eqb (operator ws n) 8 q) at (sym e)) ∙ t
 
 module _ (ws : List ℕ) (a : Accepted ws) where
-  -- a node has its place in the tables
-  pub node-index : (n : ℕ) → n < nodes ws → {i : ℕ} → i ≡ n → i < 256
-  node-index n h e = omega (arith, limited ws (a .formed .sized) .nodes-few)
-
-  -- its width
+  -- the width of a node
   pub width-is : (widths : List ℕ) → Widths ws widths → (n : ℕ) → n < nodes ws → {m i : ℕ} → m ≡ n → i ≡ m → getD widths i 0 ≡ widthAt ws n
   width-is widths w n h em ei = rw (ei ∙ em) (w n h)
 

@@ -12,7 +12,7 @@ use Rattle.algebra.specs.Plan.{Computation, Conjunct, Kind, Node, Term, add, an
 use Rattle.algebra.specs.Columns.{Column, past}
 use Rattle.algebra.specs.Domains.{Domain, around, below, domainFirst, domainKeys, match, moveComputation, moveConjunct, moveTerm, shiftBoth, underBoth, underInner}
 use Rattle.algebra.specs.Statements.{InLeft}
-use Rattle.algebra.proofs.Lists.Every.{every-append, every-both, every-head, every-map, every-mapped}
+use Rattle.algebra.proofs.Lists.Every.{every-append, every-both, every-head, every-in, every-map, every-mapped}
 use Rattle.algebra.proofs.Lists.Keep.{each-append}
 use Rattle.algebra.proofs.Lists.Same.{and-left}
 use Rattle.algebra.proofs.Columns.Picked.{length-upto}
@@ -29,7 +29,6 @@ use Rattle.plan.proofs.Laws.Formed.{NodeFacts, facts-at}
 use Rattle.plan.proofs.Laws.Rebuilt.{items-again, left-again, operator-again}
 use Rattle.plan.proofs.Laws.Written.{aggregateItem, conjunctItem, nodeItems, positionItem}
 use Rattle.rewrite.proofs.Laws.Columns.{Held, inner-held}
-use Rattle.rewrite.proofs.Laws.Shaped.{every-in}
 
 -- ---- what is asked of a node
 

@@ -1,27 +1,23 @@
 -- Every node of the rewriting of sensible nodes is sensible.
-use mathlib.Core.Path.{_≡_, refl, subst, sym}
+use mathlib.Core.Path.{_≡_, refl, subst}
 use mathlib.Core.Bool.{Bool, cond, false, true, true≢false}
 use mathlib.Core.List.{List, [], _++_, _∷_}
 use Prim.Native.Nat.{_+_, _<_, _≤_, ℕ}
 use native.Mathlib.Nat.{add-zero}
 use native.Mathlib.Omega.{arith}
 use lib.ListN.{length, length-map}
-use Rattle.algebra.specs.Lists.{Every, any, done, each, isEmpty, more, upto}
+use Rattle.algebra.specs.Lists.{Every, done, each, isEmpty, more, upto}
 use Rattle.algebra.specs.Plan.{Conjunct, Kind, Node, anti, compute, dependent, group, groupjoin, inner, join, left-outer, project, scan, select, semi}
 use Rattle.algebra.specs.Columns.{Shape, closed, computationReads, conjunctReads, past, readsLeft, shapeAt, shapeOf}
 use Rattle.algebra.specs.Domains.{Domain, around, domainKeys, innerDomain, inside, outside}
 use Rattle.algebra.specs.Rewriting.{Piece, Placed, State, addPiece, closedNode, closedPut, dropping, emit, joinClosed, joinOpen, joinUnder, missing, openUnder, pieceAt, rewritten, step, steps, unnest}
 use Rattle.algebra.specs.Statements.{Fine, FineFrom, InLeft}
-use Rattle.algebra.proofs.Lists.Every.{every-append, every-back, every-front, every-head, every-map, every-tail}
+use Rattle.algebra.proofs.Lists.Every.{any-some, every-append, every-back, every-front, every-head, every-in, every-map, every-tail}
 use Rattle.algebra.proofs.Tables.Tidy.{closed-back, closed-every}
+use Rattle.algebra.proofs.Tables.Fine.{fine-below}
 use Rattle.rewrite.proofs.Laws.Columns.{Held, inner-held, inside-held}
 use Rattle.rewrite.proofs.Laws.Sensible.{Fit, Stored, around-some, both-stored, computation-stored, conjuncts-stored, first-some, inner-stored, keys-some, match-stored, width-some}
-use Rattle.rewrite.proofs.Laws.Shaped.{Shaped, every-in, fine-below, shaped-none, shaped-step, shapes-are}
-
--- a side that reads the left row is open
-reads-open : {A : Type 0} (p : A → Bool) (xs : List A) → any p xs ≡ true → isEmpty xs ≡ false
-reads-open p [] e = sym e
-reads-open p (x ∷ xs) e = refl
+use Rattle.rewrite.proofs.Laws.Shaped.{Shaped, shaped-none, shaped-step, shapes-are}
 
 module _ (T : ℕ) where
   -- the nodes written are sensible
@@ -102,7 +98,7 @@ module _ (T : ℕ) where
         let dl = every-front (sh l .reads) _ s in
         let dr = every-back (sh l .reads) _ s in
         choice-fits (readsLeft (sh r)) _ _
-        (λ q. unnest-fits k cs (at l) (at r) D (at l .put D out) (sane l (f .0) .wide) (sane r (f .1)) (h .1) (reads-open _ (sh r .reads) q) (f .2) dr (sane l (f .0) .puts D out dl e))
+        (λ q. unnest-fits k cs (at l) (at r) D (at l .put D out) (sane l (f .0) .wide) (sane r (f .1)) (h .1) (any-some _ (sh r .reads) q) (f .2) dr (sane l (f .0) .puts D out dl e))
         (λ q. join-fits k cs (at l) (at r) D (inside D) out (sane l (f .0)) (sane r (f .1)) (h .1) dl (inside-held D (sh r .reads) q dr) e)
 
     -- a closed node

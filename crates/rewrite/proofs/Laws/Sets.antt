@@ -61,7 +61,7 @@ unfolding rank
 rank-le s zero = omega arith
 rank-le s (suc p) = omega (arith, rank-le s p, bit-lt s p)
 
-rank-step : (s q : ℕ) → rank s (suc q) ≡ rank s q + bitOf s q
+pub rank-step : (s q : ℕ) → rank s (suc q) ≡ rank s q + bitOf s q
 unfolding rank
 rank-step s q = refl
 
@@ -106,13 +106,6 @@ pub rank-full : (q : ℕ) → q ≤ 64 → rank 18446744073709551615 q ≡ q
 unfolding rank
 rank-full zero h = refl
 rank-full (suc q) h = omega (arith, rank-full q (omega arith), full-bit q h)
-
-pub rank-full-min : (q : ℕ) → rank 18446744073709551615 q ≡ min q 64
-rank-full-min q = go (ltb q 64) refl
-  where
-    go : (b : Bool) → ltb q 64 ≡ b → rank 18446744073709551615 q ≡ min q 64
-    go true t = let h = ltb-true q 64 t in omega (arith, rank-full q (omega arith))
-    go false t = let h = ltb-false q 64 t in omega (arith, rank-past 18446744073709551615 q (omega arith) h, rank-full 64 (omega arith))
 
 -- ---- the list of a set's members
 
@@ -192,12 +185,22 @@ bit-one p q false e = go (ltb p q) refl
         let g : 2 ^ p / 2 ^ q ≡ 2 ^ suc (p - suc q) = ap (λ (m : ℕ). 2 ^ m / 2 ^ q) (sym f) ∙ rw (pow-add 2 (suc (p - suc q)) q) (shl-shr (2 ^ suc (p - suc q)) q) in
         rw g (omega arith)
 
-pub in-with : (s p q : ℕ) → inSet (bitOr s (2 ^ p)) q ≡ (inSet s q || eqb p q)
-in-with s p q = rw (bit-or s (2 ^ p) q, bit-one p q (eqb p q) refl) (go (bitOf s q) (bit-lt s q) (eqb p q))
+-- a position is in a union where it is in either
+pub in-or : (a b q : ℕ) → inSet (bitOr a b) q ≡ (inSet a q || inSet b q)
+in-or a b q = rw (bit-or a b q) (go (bitOf a q) (bit-lt a q) (bitOf b q) (bit-lt b q))
   where
-    go : (n : ℕ) → n < 2 → (b : Bool) → eqb (max n (cond b 1 0)) 1 ≡ (eqb n 1 || b)
-    go zero h true = refl
-    go zero h false = refl
-    go (suc zero) h true = refl
-    go (suc zero) h false = refl
-    go (suc (suc n)) h b = absurd (omega arith)
+    go : (x : ℕ) → x < 2 → (y : ℕ) → y < 2 → eqb (max x y) 1 ≡ (eqb x 1 || eqb y 1)
+    go zero h zero g = refl
+    go zero h (suc zero) g = refl
+    go zero h (suc (suc y)) g = absurd (omega arith)
+    go (suc zero) h zero g = refl
+    go (suc zero) h (suc zero) g = refl
+    go (suc zero) h (suc (suc y)) g = absurd (omega arith)
+    go (suc (suc x)) h y g = absurd (omega arith)
+
+pub in-with : (s p q : ℕ) → inSet (bitOr s (2 ^ p)) q ≡ (inSet s q || eqb p q)
+in-with s p q = in-or s (2 ^ p) q ∙ rw (bit-one p q (eqb p q) refl) (go (eqb p q))
+  where
+    go : (b : Bool) → (inSet s q || eqb (cond b 1 0) 1) ≡ (inSet s q || b)
+    go true = refl
+    go false = refl

@@ -2,33 +2,15 @@
 use mathlib.Core.Path.{_∙_, _≡_, ap, fun-ext, refl, sym}
 use mathlib.Core.Bool.{Bool, cond, false, true}
 use mathlib.Core.List.{List, [], _++_, _∷_, map}
-use Prim.Native.Nat.{_<_, suc, zero, ℕ}
+use Prim.Native.Nat.{ℕ}
 use native.Mathlib.Omega.{arith}
 use lib.ListN.{List·getD-map, getD, length, length-append}
-use Rattle.algebra.specs.Lists.{Every, done, listFrom, more}
-use Rattle.algebra.specs.Plan.{Node, compute, dependent, group, groupjoin, inputs, join, project, scan, select}
+use Rattle.algebra.specs.Lists.{listFrom}
+use Rattle.algebra.specs.Plan.{Node}
 use Rattle.algebra.specs.Columns.{Shape, closed, shapeAt, shapeOf, shapeless}
 use Rattle.algebra.specs.Rewriting.{Piece, Placed, State, addPiece, closedNode, closedPut, missing, openUnder, pieceAt, step}
-use Rattle.algebra.specs.Statements.{Fine}
 use Rattle.algebra.proofs.Lists.Keep.{map-append}
 use Rattle.algebra.proofs.Lists.Entries.{entries-snoc}
-
--- the inputs of a node that may stand at c are before it
-pub fine-below : (sh : ℕ → Shape) (c : ℕ) (n : Node) → Fine sh c n → Every (λ j. j < c) (inputs n)
-fine-below sh c (scan t) f = done
-fine-below sh c (select cs i) f = more f done
-fine-below sh c (compute e i) f = more f done
-fine-below sh c (project ps i) f = more f done
-fine-below sh c (join k cs l r) f = more (f .0) (more (f .1) done)
-fine-below sh c (group ks gs i) f = more f done
-fine-below sh c (groupjoin cs gs l r) f = more (f .0) (more (f .1) done)
-fine-below sh c (dependent k cs l r) f = more (f .0) (more (f .1) done)
-
--- an element that is there
-pub every-in : {A : Type 0} {P : A → Type 0} (z : A) {xs : List A} → Every P xs → (i : ℕ) → i < length xs → P (getD xs i z)
-every-in z done i h = absurd (omega arith)
-every-in z (more g t) zero h = g
-every-in z (more g t) (suc i) h = every-in z t i (omega arith)
 
 module _ (widths : List ℕ) where
   -- after the nodes ns: one piece for each, with its shape

@@ -33,7 +33,7 @@ module _ (ws : List ℕ) (h : Accepted ws) where
       go false e = rw (ap (λ (s : Shape). s .width) (shape-past (widthsOf ws) (nodesOf ws) i (rw (nodes-length ws) (ltb-false _ _ e)))) (omega arith)
 
   -- nor is one that stands around a node
-  around-narrow : (fuel m : ℕ) → Every (λ w. w ≤ 64) (scope ws fuel m)
+  pub around-narrow : (fuel m : ℕ) → Every (λ w. w ≤ 64) (scope ws fuel m)
   unfolding scope
   around-narrow zero m = done
   around-narrow (suc fuel) m =

@@ -7,35 +7,28 @@ use native.Mathlib.Omega.{arith}
 use lib.Dec.{ltb, eqb}
 use lib.ListN.{length, getD}
 use lib.Seq.{take-at, drop-at}
-use borrow.Author.Tests.{eqb-true, ne-eqb}
+use borrow.Author.Tests.{eqb-true}
 use Rattle.algebra.specs.Lists.{keep, all, isEmpty, upto, Every, done, more}
 use Rattle.algebra.specs.Plan.{Node}
-use Rattle.algebra.specs.Columns.{shapeAt, closed}
 use Rattle.algebra.proofs.Lists.Every.{every-map, every-append, every-unmapped}
 use Rattle.algebra.proofs.Lists.Keep.{keep-append, keep-all, keep-none}
 use Rattle.algebra.proofs.Domains.Keys.{upto-all}
 use Rattle.plan.specs.Words.{Item, nodes, operator, left, right, kind, firstItem, itemCount, itemWord, itemAt, itemsFrom}
 use Rattle.plan.specs.Items.{isConjunct, isKey, isAggregate, conjunctsIn, keysIn, positionOf, conjunctRight, computationRight, keyRight, outputRight, aggregateRight}
-use Rattle.plan.specs.Plan.{computationIn, nodeFor, nodeAt, kindOf, widthsOf, nodesOf}
+use Rattle.plan.specs.Plan.{computationIn, nodeFor, nodeAt, kindOf}
 use Rattle.plan.specs.Verdict.{inFront, itemsRight, hasRight, conjunctThere, computationThere, columnsThere, widthAt, scopeOf, columnsRight}
 use Rattle.plan.specs.Promise.{Accepted}
 use Rattle.plan.proofs.Laws.Header.{both}
-use Rattle.plan.proofs.Laws.Formed.{limited, by-operator, facts-at, shape-of}
+use Rattle.plan.proofs.Laws.Formed.{by-operator, facts-at}
 use Rattle.plan.proofs.Laws.Items.{items-length, items-split}
+use Rattle.plan.proofs.Laws.Loops.{keep-few}
 use Rattle.plan.proofs.Laws.Numbered.{every-all}
 use Rattle.plan.proofs.Laws.Restored.{conjunct-not-aggregate, key-not-aggregate, aggregate-not-conjunct, aggregate-not-key}
 use Rattle.rewrite.specs.Items.{Movable}
 use Rattle.rewrite.specs.Under.{conjunctCount}
+use Rattle.rewrite.proofs.Laws.Finish.{count-all}
+use Rattle.rewrite.proofs.Laws.Limits.{items-within}
 use Rattle.rewrite.proofs.Laws.Small.{row-narrow, outer-narrow, conjuncts-movable, computation-movable, positions-small, aggregates-small}
-
--- what passes a test is no more than all
-pub keep-few : {A : Type 0} (p : A → Bool) (xs : List A) → length (keep p xs) ≤ length xs
-keep-few p [] = omega arith
-keep-few p (x ∷ xs) = go (p x) (keep-few p xs)
-  where
-    go : (b : Bool) → length (keep p xs) ≤ length xs → length (cond b (x ∷ keep p xs) (keep p xs)) ≤ suc (length xs)
-    go true h = omega arith
-    go false h = omega arith
 
 -- ---- items of a sort, then aggregates
 
@@ -110,15 +103,6 @@ no-project e q = true≢false (sym e ∙ ap hasRight q)
 pub no-group : {o : ℕ} → hasRight o ≡ true → o ≡ 6 → ⊥
 no-group e q = true≢false (sym e ∙ ap hasRight q)
 
--- by the operator
-pub no-right : {o : ℕ} → (o ≡ 5 → ⊥) → (o ≡ 7 → ⊥) → (o ≡ 8 → ⊥) → hasRight o ≡ false
-no-right {o} f g h = rw (ne-eqb o 5 f, ne-eqb o 7 g, ne-eqb o 8 h)
-
--- an open node is no scan
-pub open-no-scan : (ws : List ℕ) (n : ℕ) → Accepted ws → n < nodes ws → closed (shapeAt (widthsOf ws) (nodesOf ws) n) ≡ false → operator ws n ≡ 1 → ⊥
-unfolding nodeFor
-open-no-scan ws n h l e q = true≢false (sym (ap closed (shape-of ws (h .formed) n l) ∙ rw q) ∙ e)
-
 -- a dependent join
 pub two-inputs : {o : ℕ} → o ≡ 8 → hasRight o ≡ true
 two-inputs q = ap hasRight q
@@ -132,9 +116,7 @@ module _ (ws : List ℕ) (n a count : ℕ) (read : Read ws n a count) where
   nodeOver o = nodeFor o (left ws n) (right ws n) (kindOf (kind ws n)) (itemsFrom ws a count)
 
   pub within : a + count ≤ 2000
-  within =
-      let f = read .accepted .formed in
-      omega (arith, read .first, read .number, facts-at ws f n (read .there) .within, limited ws (f .sized) .items-few)
+  within = items-within ws (read .accepted) n (read .there) (read .first) (read .number)
 
   module _ (o : ℕ) (e : operator ws n ≡ o) where
     pub node-is : nodeAt ws n ≡ nodeOver o
@@ -251,7 +233,7 @@ module _ (ws : List ℕ) (n a count : ℕ) (read : Read ws n a count) where
 
   -- where there are only conjuncts
   pub all-conjuncts : (operator ws n ≡ 7 → ⊥) → count ≡ conjunctCount ws n
-  all-conjuncts f = rw (ne-eqb (operator ws n) 7 f) (read .number)
+  all-conjuncts = count-all ws n (operator ws n) count refl (read .number)
 
   pub groupjoin-conjuncts : operator ws n ≡ 7 → conjunctCount ws n ≡ length (keep isConjunct (itemsFrom ws a count))
   groupjoin-conjuncts e = rw (e, read .first, read .number)

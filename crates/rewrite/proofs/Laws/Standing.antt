@@ -10,7 +10,7 @@ use Rattle.algebra.specs.Plan.{Node, group}
 use Rattle.algebra.specs.Columns.{Column, Shape, closed, shapeAt, shapeOf, shapeless}
 use Rattle.algebra.specs.Domains.{Domain, domainKeys, innerDomain, inside}
 use Rattle.algebra.specs.Rewriting.{Placed}
-use Rattle.algebra.proofs.Lists.Entries.{entry-before, entry-last}
+use Rattle.algebra.proofs.Lists.Entries.{entry-last}
 use Rattle.plan.specs.Words.{nodes}
 use Rattle.plan.specs.Plan.{nodeAt, nodesOf, widthsOf}
 use Rattle.plan.specs.Verdict.{columnsRight, scopeOf, widthAt}
@@ -19,7 +19,7 @@ use Rattle.plan.proofs.Laws.Formed.{shape-of}
 use Rattle.rewrite.specs.Reads.{readsAt}
 use Rattle.rewrite.specs.Pages.{Stands}
 use Rattle.rewrite.specs.Under.{Ready, Within, put}
-use Rattle.rewrite.proofs.Laws.ColumnsWritten.{Grows, Has, Sits, Wrote, grows-none, sits-closed}
+use Rattle.rewrite.proofs.Laws.ColumnsWritten.{Grows, Sits, Wrote, grows-none, sits-closed, stands-before}
 use Rattle.rewrite.proofs.Laws.ColumnsUnder.{open-node}
 use Rattle.rewrite.proofs.Laws.Fuel.{Extends, extends-none, extends-one, extends-then, own, put-behind, put-closed, put-open}
 use Rattle.rewrite.proofs.Laws.Inputs.{node-fine}
@@ -27,13 +27,7 @@ use Rattle.rewrite.proofs.Laws.Inputs.{node-fine}
 -- ---- nodes behind change nothing
 
 pub stands-more : {widths : List ℕ} {out more : List Node} {i w : ℕ} → Extends out more → Stands widths out i w → Stands widths more i w
-stands-more {widths} {out} {more} {i} {w} e s = rw (e .is) (record {
-  inside = rw length-append (omega (arith, s .inside));
-  width = ap (λ (r : Shape). r .width) (entry-before shapeless (shapeOf widths) out (e .rest) i (s .inside)) ∙ s .width;
-})
-
-has-stands : {widths : List ℕ} {out : List Node} {i w : ℕ} → Stands widths out i w → Has widths out i w
-has-stands s = record { inside = s .inside; width = s .width }
+stands-more e s = rw (e .is) (stands-before (e .rest) s)
 
 -- ---- what is put has the domain's columns in front of its own
 
@@ -42,7 +36,7 @@ module _ (ws : List ℕ) (a : Accepted ws) (images : ℕ → ℕ) (bound : ℕ) 
   sits : (fuel i : ℕ) → i < fuel → i < bound → Sits (widthsOf ws) out (own ws images i)
   unfolding columnsRight
   sits zero i l b = absurd (omega arith)
-  sits (suc fuel) i l b = record { copied = λ e. has-stands (copies i b e); puts = λ D more ext sd held. go (closed shape) refl D more ext sd held (λ j g. sits fuel j (omega arith) (omega arith)) }
+  sits (suc fuel) i l b = record { copied = λ e. (copies i b e); puts = λ D more ext sd held. go (closed shape) refl D more ext sd held (λ j g. sits fuel j (omega arith) (omega arith)) }
     where
       shape : Shape
       shape = shapeAt (widthsOf ws) (nodesOf ws) i
@@ -53,9 +47,9 @@ module _ (ws : List ℕ) (a : Accepted ws) (images : ℕ → ℕ) (bound : ℕ) 
       is : shape ≡ shapeOf (widthsOf ws) (shapeAt (widthsOf ws) (nodesOf ws)) (nodeAt ws i)
       is = shape-of ws (a .formed) i here
 
-      go : (b : Bool) → closed shape ≡ b → (D : Domain) (more : List Node) → Grows (widthsOf ws) out more → Has (widthsOf ws) more (D .node) (D .width) → Within D (readsAt ws i)
+      go : (b : Bool) → closed shape ≡ b → (D : Domain) (more : List Node) → Grows (widthsOf ws) out more → Stands (widthsOf ws) more (D .node) (D .width) → Within D (readsAt ws i)
           → ((j : ℕ) → j < i → Sits (widthsOf ws) out (own ws images j)) → Wrote (widthsOf ws) more (put ws images (suc i) i D more) (D .width + widthAt ws i)
-      go true e D more ext sd held before = rw (put-closed ws (a .formed) images i here D more e) (sits-closed (widthsOf ws) out shape (images i) (has-stands (copies i b e)) .puts D more ext sd held)
+      go true e D more ext sd held before = rw (put-closed ws (a .formed) images i here D more e) (sits-closed (widthsOf ws) out shape (images i) (copies i b e) .puts D more ext sd held)
       go false e D more ext sd held before =
           rw (put-open ws (a .formed) images i here D more e, ap (λ (s : Shape). s .width) is)
           (open-node (widthsOf ws) out (own ws images) i before D more ext sd (scopeOf ws i) (nodeAt ws i) (node-fine ws a i here) (rw is at e) (a .columns i here) (rw (ap (λ (s : Shape). s .reads) is) at held))
@@ -78,9 +72,7 @@ module _ (ws : List ℕ) (a : Accepted ws) (images : ℕ → ℕ) {n : ℕ} (h :
 
     -- it has D's columns in front of its own
     pub left-stands : Within D (readsAt ws l) → Stands (widthsOf ws) (x .out) (x .at) (D .width + widthAt ws l)
-    left-stands within =
-        let s = sits ws a images n (omega arith) out (ready .copies) (suc l) l (omega arith) g .puts D out (grows-none out) (has-stands (ready .domain)) within .has in
-        record { inside = s .inside; width = s .width }
+    left-stands within = sits ws a images n (omega arith) out (ready .copies) (suc l) l (omega arith) g .puts D out (grows-none out) (ready .domain) within .has
 
     -- the right input under D, or inside it
     pub ready-right : (r : ℕ) → r < n → (b : Bool) → Ready ws images r (cond b (inside D) D) (x .out)

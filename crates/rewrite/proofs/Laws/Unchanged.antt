@@ -25,8 +25,9 @@ use Rattle.plan.specs.Promise.{Accepted}
 use Rattle.plan.specs.Encoding.{parts}
 use Rattle.plan.proofs.Laws.Formed.{NodeFacts, facts-at, inputs-below, mapped-at, nodes-length, upto-at}
 use Rattle.plan.proofs.Laws.Rebuilt.{operator-again}
+use Rattle.algebra.proofs.Tables.Fine.{fine-below}
 use Rattle.rewrite.proofs.Laws.Local.{ordered-all, tidy-node}
-use Rattle.rewrite.proofs.Laws.Shaped.{Shaped, fine-below, shaped-none, shaped-step, shapes-are}
+use Rattle.rewrite.proofs.Laws.Shaped.{Shaped, shaped-none, shaped-step, shapes-are}
 
 -- ---- closed nodes without dependent joins are copied
 
@@ -43,16 +44,16 @@ copied-same at (groupjoin cs gs l r) out p h = rw (every-head h, every-head (eve
 copied-same at (dependent k cs l r) out p h = absurd p
 
 -- after the nodes ns: these are written, each copy under its own number
-record Same (ns : List Node) (s : State) : Type 0 where
+record Kept (ns : List Node) (s : State) : Type 0 where
   out : s .out ≡ ns
   images : map (λ p. p .image) (s .pieces) ≡ upto (length ns)
 
 module _ (widths : List ℕ) where
   -- one more node
-  same-step : (ns : List Node) (s : State) (n : Node) → Shaped widths ns s → Same ns s → Fine (shapeAt widths ns) (length ns) n → Plain n
-      → closed (shapeOf widths (shapeAt widths ns) n) ≡ true → Same (ns ++ (n ∷ [])) (step widths s n)
+  kept-step : (ns : List Node) (s : State) (n : Node) → Shaped widths ns s → Kept ns s → Fine (shapeAt widths ns) (length ns) n → Plain n
+      → closed (shapeOf widths (shapeAt widths ns) n) ≡ true → Kept (ns ++ (n ∷ [])) (step widths s n)
   unfolding step
-  same-step ns s n v q f p c =
+  kept-step ns s n v q f p c =
       rw (subst (λ (t : ℕ → Shape). closed (shapeOf widths t n) ≡ true) (shapes-are widths ns s v) c, copied-same at n (s .out) p (every-map image (fine-below _ _ n f)))
       (record {
         out = ap (λ (l : List Node). l ++ (n ∷ [])) (q .out);
@@ -66,12 +67,12 @@ module _ (widths : List ℕ) where
       image i h = sym (List·getD-map (λ p. p .image) (s .pieces) i missing) ∙ ap (λ (l : List ℕ). getD l i 0) (q .images) ∙ upto-at (length ns) i 0 h
 
   -- all nodes, one after the other
-  same-steps : (ns ms : List Node) (s : State) → Shaped widths ns s → Same ns s → FineFrom widths ns ms → Every Plain ms → ((i : ℕ) → closed (shapeAt widths (ns ++ ms) i) ≡ true)
+  kept-steps : (ns ms : List Node) (s : State) → Shaped widths ns s → Kept ns s → FineFrom widths ns ms → Every Plain ms → ((i : ℕ) → closed (shapeAt widths (ns ++ ms) i) ≡ true)
       → steps widths s ms .out ≡ ns ++ ms
   unfolding steps
-  same-steps ns [] s v q f p c = rw append-nil (q .out)
-  same-steps ns (m ∷ ms) s v q f p c =
-      same-steps (ns ++ (m ∷ [])) ms (step widths s m) (shaped-step widths ns s m v) (same-step ns s m v q (f .0) (every-head p) here) (f .1) (every-tail p) (rw (append-assoc ns (m ∷ []) ms) c)
+  kept-steps ns [] s v q f p c = rw append-nil (q .out)
+  kept-steps ns (m ∷ ms) s v q f p c =
+      kept-steps (ns ++ (m ∷ [])) ms (step widths s m) (shaped-step widths ns s m v) (kept-step ns s m v q (f .0) (every-head p) here) (f .1) (every-tail p) (rw (append-assoc ns (m ∷ []) ms) c)
       ∙ append-assoc ns (m ∷ []) ms
     where
       here : closed (shapeOf widths (shapeAt widths ns) m) ≡ true
@@ -85,7 +86,7 @@ module _ (widths : List ℕ) where
   -- a plan of closed nodes without dependent joins
   pub unchanged : (ns : List Node) → FineFrom widths [] ns → Every Plain ns → Ordered ns → rewritten widths ns ≡ ns
   unfolding rewritten
-  unchanged ns f p o = same-steps [] ns _ (shaped-none widths) (record { out = refl; images = refl }) f p (ordered-closed widths o)
+  unchanged ns f p o = kept-steps [] ns _ (shaped-none widths) (record { out = refl; images = refl }) f p (ordered-closed widths o)
 
 -- ---- in an accepted plan without dependent joins every node is closed
 

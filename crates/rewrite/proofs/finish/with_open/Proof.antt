@@ -1,6 +1,6 @@
 use mathlib.Core.Path.{_≡_, refl, sym, _∙_}
 use mathlib.Core.List.{List, map}
-use Prim.Native.Nat.{_+_}
+use Prim.Native.Nat.{_+_, _-_, _≤_}
 use native.Mathlib.Omega.{arith}
 use Rattle.algebra.specs.Plan.{join, groupjoin}
 use Rattle.algebra.specs.Domains.{moveAggregate, shift, underBoth}
@@ -9,12 +9,22 @@ use Rattle.plan.specs.Items.{conjunctsIn, aggregatesIn}
 use Rattle.plan.specs.Plan.{kindOf, nodeAt}
 use Rattle.rewrite.specs.Under.{withOpen}
 use Rattle.rewrite.proofs.Laws.Pages.{added-then}
-use Rattle.rewrite.proofs.Laws.Sorted.{read-node, within, fronts, movable, groupjoin-small, groupjoin-conjuncts, no-project, no-group}
+use Rattle.rewrite.proofs.Laws.Sorted.{Read, read-node, within, fronts, movable, groupjoin-small, groupjoin-conjuncts, no-project, no-group}
 use Rattle.rewrite.proofs.Laws.Joined.{join-open, groupjoin-open, open-join, open-groupjoin}
 use Rattle.rewrite.proofs.Laws.Finish.{grows, grows-as, drops}
 use borrow.Author.Needs.{needs}
 use Rattle.rewrite.proofs.finish.with_open.Statement.{statement}
 use Rattle.rewrite.proofs.finish.with_open.Tie as tie
+
+-- the node and its items are read
+node-read : (c : tie.After-item-count) → Read (c .before .before .before .args .words .now) (c .before .before .before .args .n) (c .before .first-item .result) (c .item-count .result)
+node-read c = let s = c .before .before .before in read-node (s .args .words .now) (s .args .n) (s .pre .0) (s .pre .1) (c .before .first-item .ensures) (c .item-count .ensures)
+
+-- its conjuncts, and what stands behind them, are within the limits
+few : (c : tie.After-conjunct-count)
+    → (c .conjunct-count .result ≤ c .before .item-count .result) × (c .before .before .first-item .result + c .conjunct-count .result ≤ 2000)
+    × (c .before .before .first-item .result + c .conjunct-count .result + (c .before .item-count .result - c .conjunct-count .result) ≤ 2000)
+few c = fronts _ _ _ _ (node-read (c .before)) _ (c .conjunct-count .ensures)
 
 first-item-requires : tie.Need-first-item-requires
 first-item-requires c κs = search needs
@@ -35,7 +45,7 @@ matches-requires c κs = search needs
 moved-requires : tie.Need-moved-requires
 moved-requires c κs =
     let s = c .before .before .before .before .before .before .before in
-    let r = read-node (s .args .words .now) (s .args .n) (s .pre .0) (s .pre .1) (c .before .before .before .before .before .first-item .ensures) (c .before .before .before .before .item-count .ensures) in
+    let r = node-read (c .before .before .before .before) in
     let e = c .before .before .before .conjunct-count .ensures in
     (fronts _ _ _ _ r _ e .1, search needs, search needs, movable _ _ _ _ r (no-project (s .pre .2)) (no-group (s .pre .2)) _ e)
 
@@ -44,28 +54,25 @@ operator-requires c κs = search needs
 
 add-shifted : tie.Need-add-shifted
 add-shifted c =
-    let s = c .before .before .before .before .before .before .before .before .before .before .before in
-    let f = fronts _ _ _ _ (read-node (s .args .words .now) (s .args .n) (s .pre .0) (s .pre .1) (c .before .before .before .before .before .before .before .before .before .first-item .ensures) (c .before .before .before .before .before .before .before .before .item-count .ensures)) _ (c .before .before .before .before .before .before .before .conjunct-count .ensures) in
+    let f = few (c .before .before .before .before .before .before .before) in
     omega arith
 
 sub-shifted : tie.Need-sub-shifted
 sub-shifted c =
-    let s = c .before .before .before .before .before .before .before .before .before .before .before in
-    let f = fronts _ _ _ _ (read-node (s .args .words .now) (s .args .n) (s .pre .0) (s .pre .1) (c .before .before .before .before .before .before .before .before .before .first-item .ensures) (c .before .before .before .before .before .before .before .before .item-count .ensures)) _ (c .before .before .before .before .before .before .before .conjunct-count .ensures) in
+    let f = few (c .before .before .before .before .before .before .before) in
     omega arith
 
 shifted-requires : tie.Need-shifted-requires
 shifted-requires c κs =
     let s = c .before .before .before .before .before .before .before .before .before .before .before in
-    let r = read-node (s .args .words .now) (s .args .n) (s .pre .0) (s .pre .1) (c .before .before .before .before .before .before .before .before .before .first-item .ensures) (c .before .before .before .before .before .before .before .before .item-count .ensures) in
+    let r = node-read (c .before .before .before .before .before .before .before .before) in
     let e = c .before .before .before .before .before .before .before .conjunct-count .ensures in
     let q = sym (c .before .before .operator .ensures) ∙ c .before .if1 .taken in
     (fronts _ _ _ _ r _ e .2, s .pre .3, groupjoin-small _ _ _ _ r q _ (e ∙ groupjoin-conjuncts _ _ _ _ r q))
 
 sub-push-node : tie.Need-sub-push-node
 sub-push-node c =
-    let s = c .before .before .before .before .before .before .before .before .before .before .before .before .before .before in
-    let f = fronts _ _ _ _ (read-node (s .args .words .now) (s .args .n) (s .pre .0) (s .pre .1) (c .before .before .before .before .before .before .before .before .before .before .before .before .first-item .ensures) (c .before .before .before .before .before .before .before .before .before .before .before .item-count .ensures)) _ (c .before .before .before .before .before .before .before .before .before .before .conjunct-count .ensures) in
+    let f = few (c .before .before .before .before .before .before .before .before .before .before) in
     omega arith
 
 push-node-requires : tie.Need-push-node-requires
@@ -77,7 +84,7 @@ returns c =
     let s = c .before .before .before .before .before .before .before .before .before .before .before .before .before .before .before in
     let a = s .args in
     let ws = a .words .now in
-    let r = read-node ws (a .n) (s .pre .0) (s .pre .1) (c .before .before .before .before .before .before .before .before .before .before .before .before .before .first-item .ensures) (c .before .before .before .before .before .before .before .before .before .before .before .before .item-count .ensures) in
+    let r = node-read (c .before .before .before .before .before .before .before .before .before .before .before .before) in
     let q = sym (c .before .before .before .before .before .before .operator .ensures) ∙ c .before .before .before .before .before .if1 .taken in
     let xs : List words.Item = words.itemsFrom ws (c .before .before .before .before .before .before .before .before .before .before .before .before .before .first-item .result) (c .before .before .before .before .before .before .before .before .before .before .before .before .item-count .result) in
     grows-as _ (withOpen D (a .wl) (a .wr) (a .i) (a .j) (nodeAt ws (a .n))) (λ out. open-groupjoin ws (a .n) _ _ r (s .pre .2) D (a .d .width) (a .wl) (a .wr) (a .i) (a .j) (m .width) out q)
@@ -105,7 +112,7 @@ returns-2 c =
     let s = c .before .before .before .before .before .before .before .before .before .before .before .before .before .before .before .before .before .before in
     let a = s .args in
     let ws = a .words .now in
-    let r = read-node ws (a .n) (s .pre .0) (s .pre .1) (c .before .before .before .before .before .before .before .before .before .before .before .before .before .before .before .before .first-item .ensures) (c .before .before .before .before .before .before .before .before .before .before .before .before .before .before .before .item-count .ensures) in
+    let r = node-read (c .before .before .before .before .before .before .before .before .before .before .before .before .before .before .before) in
     let q : words.operator ws (a .n) ≡ 7 → ⊥ = λ e. c .before .before .before .before .before .before .before .before .if1 .left (c .before .before .before .before .before .before .before .before .before .operator .ensures ∙ e) in
     let xs : List words.Item = words.itemsFrom ws (c .before .before .before .before .before .before .before .before .before .before .before .before .before .before .before .before .first-item .result) (c .before .before .before .before .before .before .before .before .before .before .before .before .before .before .before .item-count .result) in
     let x = join (kindOf (words.kind ws (a .n))) (underBoth D (a .wl) (conjunctsIn xs)) (a .i) (a .j) in

@@ -1,11 +1,13 @@
-use mathlib.Core.Path.{_∙_}
+use mathlib.Core.Path.{refl, _∙_}
 use Prim.Native.Nat.{_≤_, _-_}
 use native.Mathlib.Omega.{arith}
 use borrow.Author.Needs.{needs}
 use Rattle.algebra.specs.Lists.{each}
 use Rattle.plan.specs.Words.{itemsFrom}
 use Rattle.rewrite.specs.Reads.{reads, Added}
-use Rattle.rewrite.proofs.Laws.Reads.{itemReads, items-none, items-more, items-within, nodes-few, node-filled}
+use Rattle.rewrite.proofs.Laws.Limits.{node-index, items-within}
+use Rattle.rewrite.proofs.Laws.ColumnsRead.{itemReads}
+use Rattle.rewrite.proofs.Laws.Reads.{items-none, items-more, node-filled}
 use Rattle.rewrite.proofs.reads.add_node.Statement.{statement}
 use Rattle.rewrite.proofs.reads.add_node.Tie as tie
 
@@ -40,7 +42,7 @@ add-term-requires : tie.Need-add-term-requires Inv-loop μ-loop
 add-term-requires c κs =
     let l = c .before .before in
     let s = l .before .before .before .before .before .before in
-    (nodes-few (s .args .words .now) (s .pre .0) (s .args .n) (s .pre .1), omega arith, l .loop .inv .1 .size ∙ l .before .before .before .add-inputs .ensures .size ∙ s .pre .2 .size)
+    (node-index (s .args .words .now) (s .pre .0) (s .args .n) (s .pre .1) refl, omega arith, l .loop .inv .1 .size ∙ l .before .before .before .add-inputs .ensures .size ∙ s .pre .2 .size)
 
 add-add-term-2 : tie.Need-add-add-term-2 Inv-loop μ-loop
 add-add-term-2 c =
@@ -53,7 +55,7 @@ add-term-requires-2 : tie.Need-add-term-requires-2 Inv-loop μ-loop
 add-term-requires-2 c κs =
     let l = c .before .before .before .before in
     let s = l .before .before .before .before .before .before in
-    (nodes-few (s .args .words .now) (s .pre .0) (s .args .n) (s .pre .1), omega arith, c .before .add-term .ensures .size ∙ l .loop .inv .1 .size ∙ l .before .before .before .add-inputs .ensures .size ∙ s .pre .2 .size)
+    (node-index (s .args .words .now) (s .pre .0) (s .args .n) (s .pre .1) refl, omega arith, c .before .add-term .ensures .size ∙ l .loop .inv .1 .size ∙ l .before .before .before .add-inputs .ensures .size ∙ s .pre .2 .size)
 
 add-i : tie.Need-add-i Inv-loop μ-loop
 add-i c = search needs

@@ -1,4 +1,4 @@
-use mathlib.Core.Path.{_≡_, _∙_, ap, sym}
+use mathlib.Core.Path.{_≡_, refl, _∙_, ap, sym}
 use mathlib.Core.Bool.{false}
 use mathlib.Core.Logic.{⊎-elim}
 use mathlib.Core.List.{List}
@@ -14,7 +14,8 @@ use Rattle.plan.specs.Verdict.{widthAt}
 use Rattle.rewrite.specs.Sets.{members}
 use Rattle.rewrite.specs.Reads.{readsAt}
 use Rattle.rewrite.proofs.Laws.Domains.{inner-domain}
-use Rattle.rewrite.proofs.Laws.Put.{inner-sound, is-closed, is-open, node-index, width-few, width-is}
+use Rattle.rewrite.proofs.Laws.Limits.{node-index}
+use Rattle.rewrite.proofs.Laws.Put.{inner-sound, is-closed, is-open, width-few, width-is}
 use Rattle.rewrite.proofs.Laws.Closed.{left-node, right-node, keys-are, domain-over, inner-closes, copy-closes}
 use borrow.Author.Needs.{needs}
 use Rattle.rewrite.proofs.steps.closed_node.Statement.{statement}
@@ -196,11 +197,11 @@ returns-3 : tie.Need-returns-3
 returns-3 c =
     let p = c .before .before .before .before .before in
     let s = p .before .before in
-    copy-closes (s .args .words .now) (s .pre .0) (s .args .n) (s .pre .1)
+    copy-closes (s .args .words .now) (s .pre .0) (s .args .n) (s .pre .1) _
     (λ e.
     ⊎-elim (λ w. is-closed (s .args .words .now) (s .args .reaches .now) (s .pre .3) _ (right-node (s .args .words .now) (s .pre .0) (s .args .n) (s .pre .1) e) (w .3 .ensures ∙ w .2 .ensures) (omega (arith, w .5 .left)))
     (λ w. absurd (w .left (p .operator .ensures ∙ e))) (c .before .before .before .before .if1 .came))
-    (c .copy-node .ensures)
+    (c .copy-node .ensures) refl
 
 pub closed-node-spec : {M : Type 1} → statement M
 closed-node-spec =
