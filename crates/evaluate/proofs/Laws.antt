@@ -8,6 +8,7 @@ pub mod Cells
 pub mod Choices
 pub mod Comparing
 pub mod Computing
+pub mod Counted
 pub mod Ending
 pub mod Finishing
 pub mod Frames

@@ -25,7 +25,8 @@ module _ (widths : List ℕ) (db : Database) where
   node-width : (at : ℕ → Result) (sh : ℕ → Shape) → ((i : ℕ) → at i .width ≡ sh i .width) → (n : Node) → nodeResult widths db at n .width ≡ shapeOf widths sh n .width
   node-width at sh h n = ap (λ (w : ℕ → ℕ). widthOf widths w n) (fun-ext h)
 
-  width-is : (ns : List Node) (i : ℕ) → resultOf widths db ns i .width ≡ shapeAt widths ns i .width
+  -- a node's rows are as wide as its shape says
+  pub width-is : (ns : List Node) (i : ℕ) → resultOf widths db ns i .width ≡ shapeAt widths ns i .width
   width-is = entries-related empty shapeless (nodeResult widths db) (shapeOf widths) (λ r s. r .width ≡ s .width) refl node-width
 
   -- what is known after the nodes ns

@@ -88,7 +88,8 @@ split s at cs = sym (append-assoc (take at s) cs (drop (at + length cs) s))
 
 pub written-length : (s : List ℤ) (at : ℕ) (cs : List ℤ) → at + length cs ≤ length s → length (written s at cs) ≡ length s
 written-length s at cs h =
-    rw (split s at cs) (length-append (take at s ++ cs) (drop (at + length cs) s) ∙ omega (arith, front-length s at cs (omega arith), length-drop (at + length cs) s))
+    rw (split s at cs)
+    (length-append (take at s ++ cs) (drop (at + length cs) s) ∙ omega (arith, front-length s at cs (omega arith), length-drop (at + length cs) s))
 
 pub written-nothing : (s : List ℤ) (at : ℕ) → written s at [] ≡ s
 unfolding written
@@ -102,7 +103,8 @@ written-rest : (s : List ℤ) (at : ℕ) (cs : List ℤ) → at ≤ length s →
 written-rest s at cs h = rw (split s at cs) (drop-at (take at s ++ cs) (drop (at + length cs) s) (at + length cs) (front-length s at cs h))
 
 -- one cell more
-pub written-more : (s : List ℤ) (at : ℕ) (cs : List ℤ) (z : ℤ) → at + length cs < length s → set (written s at cs) (at + length cs) z ≡ written s at (cs ++ (z ∷ []))
+pub written-more : (s : List ℤ) (at : ℕ) (cs : List ℤ) (z : ℤ) → at + length cs < length s
+    → set (written s at cs) (at + length cs) z ≡ written s at (cs ++ (z ∷ []))
 unfolding written
 written-more s at cs z h =
     let n : ℕ = at + length cs in
@@ -116,7 +118,8 @@ written-more s at cs z h =
     ∙ ap (λ (k : ℕ). take at s ++ ((cs ++ (z ∷ [])) ++ drop k s)) (sym e))
 
 -- behind what was written
-pub written-behind : (s : List ℤ) (at : ℕ) (cs ds : List ℤ) → at + length cs + length ds ≤ length s → written (written s at cs) (at + length cs) ds ≡ written s at (cs ++ ds)
+pub written-behind : (s : List ℤ) (at : ℕ) (cs ds : List ℤ) → at + length cs + length ds ≤ length s
+    → written (written s at cs) (at + length cs) ds ≡ written s at (cs ++ ds)
 unfolding written
 written-behind s at cs ds h =
     let n : ℕ = at + length cs in
@@ -134,13 +137,15 @@ written-behind s at cs ds h =
 pub row-long : (s : List ℤ) (from w : ℕ) → from + w ≤ length s → length (rowIn s from w) ≡ w
 row-long s from w h = length-map (take w (drop from s)) value ∙ read-long s from w refl h
 
-pub row-before : (s : List ℤ) (at : ℕ) (cs : List ℤ) (from w : ℕ) → from + w ≤ at → at + length cs ≤ length s → rowIn (written s at cs) from w ≡ rowIn s from w
+pub row-before : (s : List ℤ) (at : ℕ) (cs : List ℤ) (from w : ℕ) → from + w ≤ at → at + length cs ≤ length s
+    → rowIn (written s at cs) from w ≡ rowIn s from w
 unfolding written
 row-before s at cs from w h g =
     ap (map value)
     (part-of-first w from (take at s) (cs ++ drop (at + length cs) s) (omega (arith, length-take-le at s (omega arith))) ∙ part-of-front w from at s h)
 
-pub row-behind : (s : List ℤ) (at : ℕ) (cs : List ℤ) (from w : ℕ) → at + length cs ≤ from → at + length cs ≤ length s → rowIn (written s at cs) from w ≡ rowIn s from w
+pub row-behind : (s : List ℤ) (at : ℕ) (cs : List ℤ) (from w : ℕ) → at + length cs ≤ from → at + length cs ≤ length s
+    → rowIn (written s at cs) from w ≡ rowIn s from w
 row-behind s at cs from w h g =
     let n : ℕ = at + length cs in
     let e : from ≡ n + (from - n) = omega arith in
@@ -168,7 +173,8 @@ unfolding rowsIn
 rows-at s from w count i h = numbered-at (λ i. rowIn s (from + i * w) w) count i [] h
 
 -- two lists of cells with the same rows
-same-rows : (s t : List ℤ) (from at w count : ℕ) → ((i : ℕ) → i < count → rowIn s (from + i * w) w ≡ rowIn t (at + i * w) w) → rowsIn s from w count ≡ rowsIn t at w count
+same-rows : (s t : List ℤ) (from at w count : ℕ) → ((i : ℕ) → i < count → rowIn s (from + i * w) w ≡ rowIn t (at + i * w) w)
+    → rowsIn s from w count ≡ rowsIn t at w count
 unfolding rowsIn
 same-rows s t from at w count f = map-cong (λ i. rowIn s (from + i * w) w) (λ i. rowIn t (at + i * w) w) (every-map f (upto-below count))
 
@@ -198,16 +204,19 @@ pub rows-next : (s : List ℤ) (from w i : ℕ) → rowsIn s from w (i + 1) ≡ 
 unfolding rowsIn
 rows-next s from w i = rw (add-one i) (map-append (λ k. rowIn s (from + k * w) w) (upto i) (i ∷ []))
 
-pub rows-before : (s : List ℤ) (at : ℕ) (cs : List ℤ) (from w count : ℕ) → from + count * w ≤ at → at + length cs ≤ length s → rowsIn (written s at cs) from w count ≡ rowsIn s from w count
+pub rows-before : (s : List ℤ) (at : ℕ) (cs : List ℤ) (from w count : ℕ) → from + count * w ≤ at → at + length cs ≤ length s
+    → rowsIn (written s at cs) from w count ≡ rowsIn s from w count
 rows-before s at cs from w count h g =
     same-rows (written s at cs) s from from w count (λ i l. row-before s at cs (from + i * w) w (omega (arith, mul-le-mul-right w l)) g)
 
-pub rows-behind : (s : List ℤ) (at : ℕ) (cs : List ℤ) (from w count : ℕ) → at + length cs ≤ from → at + length cs ≤ length s → rowsIn (written s at cs) from w count ≡ rowsIn s from w count
+pub rows-behind : (s : List ℤ) (at : ℕ) (cs : List ℤ) (from w count : ℕ) → at + length cs ≤ from → at + length cs ≤ length s
+    → rowsIn (written s at cs) from w count ≡ rowsIn s from w count
 rows-behind s at cs from w count h g =
     same-rows (written s at cs) s from from w count (λ i l. row-behind s at cs (from + i * w) w (omega arith) g)
 
 -- rows of a part of the cells, chosen by number
-pub chosen-of-part : (s : List ℤ) (from w count : ℕ) {is : List ℕ} → Every (λ i. i < count) is → map (λ i. rowIn (take (count * w) (drop from s)) (i * w) w) is ≡ map (λ i. rowIn s (from + i * w) w) is
+pub chosen-of-part : (s : List ℤ) (from w count : ℕ) {is : List ℕ} → Every (λ i. i < count) is
+    → map (λ i. rowIn (take (count * w) (drop from s)) (i * w) w) is ≡ map (λ i. rowIn s (from + i * w) w) is
 chosen-of-part s from w count h =
     map-cong (λ i. rowIn (take (count * w) (drop from s)) (i * w) w) (λ i. rowIn s (from + i * w) w) (every-map (row-of-part s from w count) h)
 
@@ -246,21 +255,25 @@ row-amid w p r q e h =
     ∙ values-cells r h)
 
 -- rows between other cells
-rows-amid : (w : ℕ) (p : List ℤ) (rows : List Row) (q : List ℤ) → Wide w rows → all (all inRange) rows ≡ true → rowsIn (p ++ (cellsOf rows ++ q)) (length p) w (length rows) ≡ rows
+rows-amid : (w : ℕ) (p : List ℤ) (rows : List Row) (q : List ℤ) → Wide w rows → all (all inRange) rows ≡ true
+    → rowsIn (p ++ (cellsOf rows ++ q)) (length p) w (length rows) ≡ rows
 rows-amid w p rows q done h = rows-none (p ++ q) (length p) w
 rows-amid w p rows q (more {x = r} {xs = rs} e t) h =
     let s : List ℤ = p ++ ((map cell r ++ cellsOf rs) ++ q) in
     let n : length (map cell r) ≡ w = length-map r cell ∙ e in
-    let again : s ≡ (p ++ map cell r) ++ (cellsOf rs ++ q) = ap (λ (l : List ℤ). p ++ l) (append-assoc (map cell r) (cellsOf rs) q) ∙ sym (append-assoc p (map cell r) (cellsOf rs ++ q)) in
+    let again : s ≡ (p ++ map cell r) ++ (cellsOf rs ++ q) =
+    ap (λ (l : List ℤ). p ++ l) (append-assoc (map cell r) (cellsOf rs) q) ∙ sym (append-assoc p (map cell r) (cellsOf rs ++ q)) in
     let place : length p + 1 * w ≡ length (p ++ map cell r) = sym (length-append p (map cell r) ∙ omega arith) in
     let inside : s ≡ p ++ (map cell r ++ (cellsOf rs ++ q)) = ap (λ (l : List ℤ). p ++ l) (append-assoc (map cell r) (cellsOf rs) q) in
     let first : rowsIn s (length p) w 1 ≡ r ∷ [] = rw inside (row-amid w p r (cellsOf rs ++ q) e (and-left (all inRange r) (all (all inRange) rs) h)) in
-    let rest : rowsIn s (length p + 1 * w) w (length rs) ≡ rs = rw (again, place) (rows-amid w (p ++ map cell r) rs q t (and-right (all inRange r) (all (all inRange) rs) h)) in
+    let rest : rowsIn s (length p + 1 * w) w (length rs) ≡ rs =
+    rw (again, place) (rows-amid w (p ++ map cell r) rs q t (and-right (all inRange r) (all (all inRange) rs) h)) in
     let count : suc (length rs) ≡ 1 + length rs = omega arith in
     ap (rowsIn s (length p) w) count ∙ rows-split s (length p) w 1 (length rs) ∙ rw (first, rest)
 
 -- what was written is read back
-pub rows-written : (s : List ℤ) (at w : ℕ) (rows : List Row) → Wide w rows → all (all inRange) rows ≡ true → at + length rows * w ≤ length s → rowsIn (written s at (cellsOf rows)) at w (length rows) ≡ rows
+pub rows-written : (s : List ℤ) (at w : ℕ) (rows : List Row) → Wide w rows → all (all inRange) rows ≡ true → at + length rows * w ≤ length s
+    → rowsIn (written s at (cellsOf rows)) at w (length rows) ≡ rows
 unfolding written
 rows-written s at w rows wide h g =
     let e : length (take at s) ≡ at = length-take-le at s (omega arith) in

@@ -13,7 +13,7 @@ use Rattle.algebra.specs.Lists.{keep, all, upto, Every}
 use Rattle.algebra.specs.Value.{Value, Row, Test, holds}
 use Rattle.algebra.specs.Plan.{Conjunct}
 use Rattle.algebra.specs.Operators.{Outer, valueOf, passes}
-use Rattle.algebra.proofs.Lists.Every.{every-of, every-map, every-keep}
+use Rattle.algebra.proofs.Lists.Every.{every-of, every-map, every-keep, every-in}
 use Rattle.algebra.proofs.Lists.Keep.{keep-append, keep-all, keep-cong, keep-keep, map-append}
 use Rattle.algebra.proofs.Domains.Keys.{upto-below}
 use Rattle.plan.specs.Words.{itemWord, threeAt, itemAt, itemsFrom}
@@ -28,7 +28,6 @@ use Rattle.evaluate.specs.Cells.{value, rowIn}
 use Rattle.evaluate.specs.Bindings.{Held, taken}
 use Rattle.evaluate.specs.Choice.{rowAt, There, Below, conjunctsFrom, meets, matches}
 use Rattle.evaluate.proofs.Laws.Cells.{row-long}
-use Rattle.evaluate.proofs.Laws.Operands.{every-there}
 use Rattle.evaluate.proofs.Laws.Sorted.{item-passes}
 
 -- ---- all of them
@@ -50,10 +49,11 @@ below-there rows width {count} room t = every-map (λ k (h : k < count). omega (
 pub next-one : {P : ℕ → Type 0} (found : List ℕ) (n : ℕ) → Every P (take n found) → (k : ℕ) → k < n → n ≤ length found → P (getD found k 0)
 next-one found n every k h g =
     let l : k < length (take n found) = rw (length-take-le n found g) h in
-    rw (getD-take n found k 0 h) at (every-there 0 every k l)
+    rw (getD-take n found k 0 h) at (every-in 0 every k l)
 
 -- row k, which the code read at place i of the first n, is there
-pub chosen-inside : (rows : List ℤ) (width : ℕ) (found : List ℕ) (n i : ℕ) {k : ℕ} → There rows width (take n found) → n ≤ length found → i < n → k ≡ getD found i 0
+pub chosen-inside : (rows : List ℤ) (width : ℕ) (found : List ℕ) (n i : ℕ) {k : ℕ} → There rows width (take n found) → n ≤ length found → i < n
+    → k ≡ getD found i 0
     → k * width + width ≤ length rows
 chosen-inside rows width found n i there few l e = rw e (next-one found n there i l few)
 
@@ -78,7 +78,8 @@ module _ (l m : List ℕ) (i : ℕ) (e : drop i l ≡ drop i m) where
   rest-next = sym (drop-drop 1 i l) ∙ ap (drop 1) e ∙ drop-drop 1 i m
 
 -- one number more is looked at
-pub keep-next : (p : ℕ → Bool) (l : List ℕ) (i : ℕ) → i < length l → keep p (take (i + 1) l) ≡ keep p (take i l) ++ cond (p (getD l i 0)) (getD l i 0 ∷ []) []
+pub keep-next : (p : ℕ → Bool) (l : List ℕ) (i : ℕ) → i < length l
+    → keep p (take (i + 1) l) ≡ keep p (take i l) ++ cond (p (getD l i 0)) (getD l i 0 ∷ []) []
 keep-next p l i h = rw (add-one i, take-suc l i 0 h) (keep-append p (take i l) (getD l i 0 ∷ []))
 
 module _ {p : ℕ → Bool} {n : ℕ} {found₀ : List ℕ} where
@@ -102,7 +103,9 @@ module _ {p : ℕ → Bool} {n : ℕ} {found₀ : List ℕ} where
             behind = omega arith;
             long = length-set found kept k ∙ s .long;
             rest = drop-set-lt (i + 1) found kept k (omega arith) ∙ rest-next found found₀ i (s .rest);
-            chosen = rw (keep-next p found₀ i (omega arith), ← r, e, add-one kept) (take-suc-set found kept k (omega arith) ∙ ap (λ (l : List ℕ). l ++ (k ∷ [])) (s .chosen));
+            chosen =
+                rw (keep-next p found₀ i (omega arith), ← r, e, add-one kept)
+                (take-suc-set found kept k (omega arith) ∙ ap (λ (l : List ℕ). l ++ (k ∷ [])) (s .chosen));
           }
 
       -- it does not
@@ -139,8 +142,10 @@ module _ (test : ℕ) (first second : Operand) (s : List ℤ) (w k : ℕ) where
 
 -- ---- the rows that pass the conjuncts so far
 
-pub record Found (ws layout sizes : List ℕ) (cells scratch : List ℤ) (b : Binding) (j : ℕ) (left rows : List ℤ) (width count : ℕ) (found : List ℕ) (n i : ℕ) : Type 0 where
-  pub chosen : (o : Outer) → Held ws layout sizes cells scratch b o → take n found ≡ keep (matches o (conjunctsFrom ws j i) (map value left) rows width) (upto count)
+pub record Found (ws layout sizes : List ℕ) (cells scratch : List ℤ) (b : Binding) (j : ℕ) (left rows : List ℤ) (width count : ℕ) (found : List ℕ)
+    (n i : ℕ) : Type 0 where
+  pub chosen : (o : Outer) → Held ws layout sizes cells scratch b o
+      → take n found ≡ keep (matches o (conjunctsFrom ws j i) (map value left) rows width) (upto count)
   pub below : Below count (take n found)
   pub few : n ≤ count
 
@@ -159,9 +164,12 @@ right-at ws j count i e h =
     record { low = between-low 1 7 (x .tag) (t .0); high = between-high 1 7 (x .tag) (t .0); first = f .0; second = f .1 }
 
 -- one conjunct more
-passes-more : (o : Outer) (cs : List Conjunct) (c : Conjunct) (r : Row) → passes o (cs ++ (c ∷ [])) r ≡ (passes o cs r && holds (c .test) (valueOf o r (c .first)) (valueOf o r (c .second)))
+passes-more : (o : Outer) (cs : List Conjunct) (c : Conjunct) (r : Row)
+    → passes o (cs ++ (c ∷ [])) r ≡ (passes o cs r && holds (c .test) (valueOf o r (c .first)) (valueOf o r (c .second)))
 passes-more o [] c r = and-true (holds (c .test) (valueOf o r (c .first)) (valueOf o r (c .second)))
-passes-more o (d ∷ cs) c r = rw (passes-more o cs c r) (sym (and-assoc (holds (d .test) (valueOf o r (d .first)) (valueOf o r (d .second))) (passes o cs r) (holds (c .test) (valueOf o r (c .first)) (valueOf o r (c .second)))))
+passes-more o (d ∷ cs) c r =
+    rw (passes-more o cs c r) (sym (and-assoc (holds (d .test) (valueOf o r (d .first)) (valueOf o r (d .second))) (passes o cs r)
+    (holds (c .test) (valueOf o r (c .first)) (valueOf o r (c .second)))))
 
 conjuncts-more : (ws : List ℕ) (j i : ℕ) → conjunctsFrom ws j (i + 1) ≡ conjunctsFrom ws j i ++ (conjunctOf (itemAt ws (j + i)) ∷ [])
 conjuncts-more ws j i =
@@ -180,35 +188,41 @@ module _ {ws layout sizes : List ℕ} {cells scratch : List ℤ} {b : Binding} {
     few = omega arith;
   }
 
-  module _ {found : List ℕ} {n i : ℕ} (s : Found ws layout sizes cells scratch b j left rows width count found n i) (room : count * width ≤ length rows) where
-    pub found-there : There rows width (take n found)
-    found-there = below-there rows width room (s .below)
+  module _ {found : List ℕ} {n i : ℕ} (s : Found ws layout sizes cells scratch b j left rows width count found n i) (room : count * width ≤ length rows)
+    where
+      pub found-there : There rows width (take n found)
+      found-there = below-there rows width room (s .below)
 
-    -- one conjunct more, whose tag and terms the code read
-    pub found-more : {test m : ℕ} (first second : Operand) (t u : Term) {after : List ℕ} → test ≡ itemWord ws (j + i) 0 → meant t ≡ termOf (threeAt ws (j + i) 1) → meant u ≡ termOf (threeAt ws (j + i) 4)
-        → ((o : Outer) → Held ws layout sizes cells scratch b o → (row : Row) → length row ≡ width → taken first row ≡ valueOf o (map value left ++ row) (meant t))
-        → ((o : Outer) → Held ws layout sizes cells scratch b o → (row : Row) → length row ≡ width → taken second row ≡ valueOf o (map value left ++ row) (meant u))
-        → (take m after ≡ keep (meets test first second rows width) (take n found)) × (m ≤ n)
-        → Found ws layout sizes cells scratch b j left rows width count after m (i + 1)
-    found-more {test} {m} first second t u {after} e f g p q r = record {
-      chosen = λ o held. r .0 ∙ ap (keep (meets test first second rows width)) (s .chosen o held)
-          ∙ keep-keep (meets test first second rows width) (matches o (conjunctsFrom ws j i) (map value left) rows width) (upto count)
-          ∙ keep-cong _ _ (every-map (λ k (h : k < count). step o held k h) (upto-below count));
-      below = rw (r .0) (every-keep (meets test first second rows width) (s .below));
-      few = omega (arith, s .few, r .1);
-    }
-      where
-        step : (o : Outer) → Held ws layout sizes cells scratch b o → (k : ℕ) → k < count
-            → (matches o (conjunctsFrom ws j i) (map value left) rows width k && meets test first second rows width k) ≡ matches o (conjunctsFrom ws j (i + 1)) (map value left) rows width k
-        step o held k h =
-            let row = rowAt rows width k in
-            let c = conjunctOf (itemAt ws (j + i)) in
-            let l : length row ≡ width = row-long rows (k * width) width (omega (arith, mul-le-mul-right width h)) in
-            let a : taken first row ≡ valueOf o (map value left ++ row) (c .first) = p o held row l ∙ ap (valueOf o (map value left ++ row)) f in
-            let d : taken second row ≡ valueOf o (map value left ++ row) (c .second) = q o held row l ∙ ap (valueOf o (map value left ++ row)) g in
-            ap (λ (x : Bool). (passes o (conjunctsFrom ws j i) (map value left ++ row) && x)) (holds-same (ap testOf e) a d)
-            ∙ sym (ap (λ (cs : List Conjunct). passes o cs (map value left ++ row)) (conjuncts-more ws j i) ∙ passes-more o (conjunctsFrom ws j i) c (map value left ++ row))
+      -- one conjunct more, whose tag and terms the code read
+      pub found-more : {test m : ℕ} (first second : Operand) (t u : Term) {after : List ℕ} → test ≡ itemWord ws (j + i) 0
+          → meant t ≡ termOf (threeAt ws (j + i) 1) → meant u ≡ termOf (threeAt ws (j + i) 4)
+          →
+          ((o : Outer) → Held ws layout sizes cells scratch b o → (row : Row) → length row ≡ width → taken first row ≡ valueOf o (map value left ++ row) (meant t))
+          →
+          ((o : Outer) → Held ws layout sizes cells scratch b o → (row : Row) → length row ≡ width → taken second row ≡ valueOf o (map value left ++ row) (meant u))
+          → (take m after ≡ keep (meets test first second rows width) (take n found)) × (m ≤ n)
+          → Found ws layout sizes cells scratch b j left rows width count after m (i + 1)
+      found-more {test} {m} first second t u {after} e f g p q r = record {
+        chosen = λ o held. r .0 ∙ ap (keep (meets test first second rows width)) (s .chosen o held)
+            ∙ keep-keep (meets test first second rows width) (matches o (conjunctsFrom ws j i) (map value left) rows width) (upto count)
+            ∙ keep-cong _ _ (every-map (λ k (h : k < count). step o held k h) (upto-below count));
+        below = rw (r .0) (every-keep (meets test first second rows width) (s .below));
+        few = omega (arith, s .few, r .1);
+      }
+        where
+          step : (o : Outer) → Held ws layout sizes cells scratch b o → (k : ℕ) → k < count
+              → (matches o (conjunctsFrom ws j i) (map value left) rows width k && meets test first second rows width k) ≡ matches o
+              (conjunctsFrom ws j (i + 1)) (map value left) rows width k
+          step o held k h =
+              let row = rowAt rows width k in
+              let c = conjunctOf (itemAt ws (j + i)) in
+              let l : length row ≡ width = row-long rows (k * width) width (omega (arith, mul-le-mul-right width h)) in
+              let a : taken first row ≡ valueOf o (map value left ++ row) (c .first) = p o held row l ∙ ap (valueOf o (map value left ++ row)) f in
+              let d : taken second row ≡ valueOf o (map value left ++ row) (c .second) = q o held row l ∙ ap (valueOf o (map value left ++ row)) g in
+              ap (λ (x : Bool). (passes o (conjunctsFrom ws j i) (map value left ++ row) && x)) (holds-same (ap testOf e) a d)
+              ∙ sym
+              (ap (λ (cs : List Conjunct). passes o cs (map value left ++ row)) (conjuncts-more ws j i) ∙ passes-more o (conjunctsFrom ws j i) c (map value left ++ row))
 
-    -- all conjuncts passed
-    pub found-end : {k : ℕ} → k ≤ i → i ≤ k → Found ws layout sizes cells scratch b j left rows width count found n k
-    found-end {k} g h = let q : i ≡ k = omega arith in subst (λ (x : ℕ). Found ws layout sizes cells scratch b j left rows width count found n x) q s
+      -- all conjuncts passed
+      pub found-end : {k : ℕ} → k ≤ i → i ≤ k → Found ws layout sizes cells scratch b j left rows width count found n k
+      found-end {k} g h = let q : i ≡ k = omega arith in subst (λ (x : ℕ). Found ws layout sizes cells scratch b j left rows width count found n x) q s

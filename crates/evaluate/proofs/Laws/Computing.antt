@@ -89,11 +89,29 @@ module _ (t : ℕ) where
 
       pub combined-sum : t ≡ 9 → value (toZ w64 (ofZ w64 (toZ w64 (ofZ w64 x) +ℤ toZ w64 (ofZ w64 y)))) ≡ combined t (value x) (value y)
       combined-sum e =
-          rw (toZ-ofZ w64 x fx, toZ-ofZ w64 y fy, toZ-ofZ w64 (x +ℤ y) (fits-size (x +ℤ y) small-sum), small-number (x +ℤ y) small-sum, value-x, value-y, ne-eqb t 8 other, eq-eqb t 9 e)
+          rw (
+            toZ-ofZ w64 x fx,
+            toZ-ofZ w64 y fy,
+            toZ-ofZ w64 (x +ℤ y) (fits-size (x +ℤ y) small-sum),
+            small-number (x +ℤ y) small-sum,
+            value-x,
+            value-y,
+            ne-eqb t 8 other,
+            eq-eqb t 9 e,
+          )
 
       pub combined-difference : (t ≡ 9 → ⊥) → value (toZ w64 (ofZ w64 (toZ w64 (ofZ w64 x) -ℤ toZ w64 (ofZ w64 y)))) ≡ combined t (value x) (value y)
       combined-difference e =
-          rw (toZ-ofZ w64 x fx, toZ-ofZ w64 y fy, toZ-ofZ w64 (x -ℤ y) (fits-size (x -ℤ y) small-difference), small-number (x -ℤ y) small-difference, value-x, value-y, ne-eqb t 8 other, ne-eqb t 9 e)
+          rw (
+            toZ-ofZ w64 x fx,
+            toZ-ofZ w64 y fy,
+            toZ-ofZ w64 (x -ℤ y) (fits-size (x -ℤ y) small-difference),
+            small-number (x -ℤ y) small-difference,
+            value-x,
+            value-y,
+            ne-eqb t 8 other,
+            ne-eqb t 9 e,
+          )
 
 -- ---- the terms of a computation
 
@@ -106,22 +124,28 @@ module _ (x : Item) (right : computationRight x ≡ true) where
   terms-right = and-right (isComputation x) (termRight (x .first) && cond (eqb (x .tag) 8) (isUnused (x .second)) (termRight (x .second))) right
 
   pub first-readable : {t : Term} → t ≡ termOf (x .first) → Readable t
-  first-readable e = rw e (readable (x .first) (and-left (termRight (x .first)) (cond (eqb (x .tag) 8) (isUnused (x .second)) (termRight (x .second))) terms-right))
+  first-readable e =
+      rw e (readable (x .first) (and-left (termRight (x .first)) (cond (eqb (x .tag) 8) (isUnused (x .second)) (termRight (x .second))) terms-right))
 
   pub second-readable : {t : Term} → t ≡ termOf (x .second) → Readable t
-  second-readable e = rw e (go (eqb (x .tag) 8) (and-right (termRight (x .first)) (cond (eqb (x .tag) 8) (isUnused (x .second)) (termRight (x .second))) terms-right))
+  second-readable e =
+      rw e (go (eqb (x .tag) 8) (and-right (termRight (x .first)) (cond (eqb (x .tag) 8) (isUnused (x .second)) (termRight (x .second))) terms-right))
     where
       go : (q : Bool) → cond q (isUnused (x .second)) (termRight (x .second)) ≡ true → Readable (termOf (x .second))
       go true h = unused-readable (x .second) h
       go false h = readable (x .second) h
 
 -- what its tag makes of its terms is what it means
-combined-computed : (o : Outer) (x : Item) (r : Row) {a b : Value} → a ≡ valueOf o r (termOf (x .first)) → b ≡ valueOf o r (termOf (x .second)) → combined (x .tag) a b ≡ computed o (computationOf x) r
+combined-computed : (o : Outer) (x : Item) (r : Row) {a b : Value} → a ≡ valueOf o r (termOf (x .first)) → b ≡ valueOf o r (termOf (x .second))
+    → combined (x .tag) a b ≡ computed o (computationOf x) r
 unfolding computationOf
 combined-computed o x r {a} {b} p q = rw (p, q) (go (eqb (x .tag) 8) (eqb (x .tag) 9))
   where
-    go : (c d : Bool) → cond c (valueOf o r (termOf (x .first))) (cond d (plus (valueOf o r (termOf (x .first))) (valueOf o r (termOf (x .second)))) (minus (valueOf o r (termOf (x .first))) (valueOf o r (termOf (x .second)))))
-        ≡ computed o (cond c (copy (termOf (x .first))) (cond d (add (termOf (x .first)) (termOf (x .second))) (subtract (termOf (x .first)) (termOf (x .second))))) r
+    go : (c d : Bool)
+        → cond c (valueOf o r (termOf (x .first))) (cond d (plus (valueOf o r (termOf (x .first))) (valueOf o r (termOf (x .second))))
+        (minus (valueOf o r (termOf (x .first))) (valueOf o r (termOf (x .second)))))
+        ≡ computed o
+        (cond c (copy (termOf (x .first))) (cond d (add (termOf (x .first)) (termOf (x .second))) (subtract (termOf (x .first)) (termOf (x .second))))) r
     go true d = refl
     go false true = refl
     go false false = refl

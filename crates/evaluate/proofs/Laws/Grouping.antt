@@ -50,12 +50,20 @@ module _ (ks : List ℕ) (gs : List algebra.Aggregate) where
   others k rs = keep (λ r. not (sameRow k (picked ks r))) rs
 
   -- the rows of a key are all among those that another key leaves
-  all-others : (k x : Row) (rs : List Row) → sameRow k x ≡ false → keep (λ r. sameRow x (picked ks r)) (others k rs) ≡ keep (λ r. sameRow x (picked ks r)) rs
+  all-others : (k x : Row) (rs : List Row) → sameRow k x ≡ false
+      → keep (λ r. sameRow x (picked ks r)) (others k rs) ≡ keep (λ r. sameRow x (picked ks r)) rs
   all-others k x rs e =
-      keep-keep (λ r. sameRow x (picked ks r)) (λ r. not (sameRow k (picked ks r))) rs ∙ keep-same _ (λ r. sameRow x (picked ks r)) rs (λ r. apart k x (picked ks r) e (sameRow x (picked ks r)) refl)
+      keep-keep (λ r. sameRow x (picked ks r)) (λ r. not (sameRow k (picked ks r))) rs ∙ keep-same _ (λ r. sameRow x (picked ks r)) rs
+      (λ r. apart k x (picked ks r) e (sameRow x (picked ks r)) refl)
 
   keys-step : (r : Row) (rs : List Row) → distinct (map (picked ks) (r ∷ rs)) ≡ picked ks r ∷ distinct (map (picked ks) (others (picked ks r) (r ∷ rs)))
-  keys-step r rs = rw (same-refl (picked ks r), keep-distinct (λ x. not (sameRow (picked ks r) x)) (map (picked ks) rs), keep-map (λ x. not (sameRow (picked ks r) x)) (picked ks) rs)
+  keys-step r rs =
+      rw (
+        same-refl (picked ks r),
+        keep-distinct (λ x. not (sameRow (picked ks r) x)) (map (picked ks) rs),
+        keep-map (λ x. not (sameRow (picked ks r) x))
+            (picked ks) rs,
+      )
 
   abbrev groupOf : List Row → Row → Row
   groupOf rs k = k ++ aggregates gs (keep (λ r. sameRow k (picked ks r)) rs)
@@ -73,24 +81,32 @@ module _ (ks : List ℕ) (gs : List algebra.Aggregate) where
   -- ---- rows by number
 
   module _ (f : ℕ → Row) (k : ℕ) (js : List ℕ) (p : ℕ → Bool) (says : Every (λ i. p i ≡ sameRow (picked ks (f k)) (picked ks (f i))) (k ∷ js)) where
-    pub groups-next : groupsBy ks gs (map f (k ∷ js)) ≡ (picked ks (f k) ++ aggregates gs (map f (keep p (k ∷ js)))) ∷ groupsBy ks gs (map f (keep (λ i. not (p i)) (k ∷ js)))
+    pub groups-next : groupsBy ks gs (map f (k ∷ js)) ≡ (picked ks (f k) ++ aggregates gs (map f (keep p (k ∷ js)))) ∷ groupsBy ks gs
+        (map f (keep (λ i. not (p i)) (k ∷ js)))
     groups-next =
-        let these : map f (keep p (k ∷ js)) ≡ keep (λ r. sameRow (picked ks (f k)) (picked ks r)) (map f (k ∷ js)) = ap (map f) (keep-cong p (λ i. sameRow (picked ks (f k)) (picked ks (f i))) says) ∙ sym (keep-map (λ r. sameRow (picked ks (f k)) (picked ks r)) f (k ∷ js)) in
-        let those : map f (keep (λ i. not (p i)) (k ∷ js)) ≡ others (picked ks (f k)) (map f (k ∷ js)) = ap (map f) (keep-cong (λ i. not (p i)) (λ i. not (sameRow (picked ks (f k)) (picked ks (f i)))) (every-map (λ i t. ap not t) says)) ∙ sym (keep-map (λ r. not (sameRow (picked ks (f k)) (picked ks r))) f (k ∷ js)) in
-        groups-step (f k) (map f js) ∙ ap (λ (l : List Row). (picked ks (f k) ++ aggregates gs l) ∷ groupsBy ks gs (others (picked ks (f k)) (map f (k ∷ js)))) (sym these) ∙ ap (λ (l : List Row). (picked ks (f k) ++ aggregates gs (map f (keep p (k ∷ js)))) ∷ groupsBy ks gs l) (sym those)
+        let these : map f (keep p (k ∷ js)) ≡ keep (λ r. sameRow (picked ks (f k)) (picked ks r)) (map f (k ∷ js)) =
+        ap (map f) (keep-cong p (λ i. sameRow (picked ks (f k)) (picked ks (f i))) says) ∙ sym
+        (keep-map (λ r. sameRow (picked ks (f k)) (picked ks r)) f (k ∷ js)) in
+        let those : map f (keep (λ i. not (p i)) (k ∷ js)) ≡ others (picked ks (f k)) (map f (k ∷ js)) =
+        ap (map f) (keep-cong (λ i. not (p i)) (λ i. not (sameRow (picked ks (f k)) (picked ks (f i)))) (every-map (λ i t. ap not t) says)) ∙ sym
+        (keep-map (λ r. not (sameRow (picked ks (f k)) (picked ks r))) f (k ∷ js)) in
+        groups-step (f k) (map f js) ∙ ap
+        (λ (l : List Row). (picked ks (f k) ++ aggregates gs l) ∷ groupsBy ks gs (others (picked ks (f k)) (map f (k ∷ js)))) (sym these) ∙ ap
+        (λ (l : List Row). (picked ks (f k) ++ aggregates gs (map f (keep p (k ∷ js)))) ∷ groupsBy ks gs l) (sym those)
 
 -- ---- the loop
 
 -- the groups of the rows no longer left stand in s, those of the left rows follow
-pub record Grouped (ks : List ℕ) (gs : List algebra.Aggregate) (f : ℕ → Row) (count w to : ℕ) (s₀ s : List ℤ) (rest : List ℕ) (left groups : ℕ) : Type 0 where
-  pub rows : List Row
-  pub whole : rows ++ groupsBy ks gs (map f (take left rest)) ≡ groupsBy ks gs (map f (upto count))
-  pub many : length rows ≡ groups
-  pub room : groups + left ≤ count
-  pub wide : Wide w rows
-  pub ranged : all (all inRange) rows ≡ true
-  pub stands : s ≡ written s₀ to (cellsOf rows)
-  pub below : Below count (take left rest)
+pub record Grouped (ks : List ℕ) (gs : List algebra.Aggregate) (f : ℕ → Row) (count w to : ℕ) (s₀ s : List ℤ) (rest : List ℕ) (left groups : ℕ) : Type 0
+  where
+    pub rows : List Row
+    pub whole : rows ++ groupsBy ks gs (map f (take left rest)) ≡ groupsBy ks gs (map f (upto count))
+    pub many : length rows ≡ groups
+    pub room : groups + left ≤ count
+    pub wide : Wide w rows
+    pub ranged : all (all inRange) rows ≡ true
+    pub stands : s ≡ written s₀ to (cellsOf rows)
+    pub below : Below count (take left rest)
 
 module _ (ks : List ℕ) (gs : List algebra.Aggregate) (f : ℕ → Row) (count w to : ℕ) (s₀ : List ℤ) where
   pub grouped-none : (rest : List ℕ) → take count rest ≡ upto count → Grouped ks gs f count w to s₀ s₀ rest count 0
@@ -111,7 +127,9 @@ module _ (ks : List ℕ) (gs : List algebra.Aggregate) (f : ℕ → Row) (count 
     grouped-size = cells-length w (inv .rows) (inv .wide) ∙ ap (λ (n : ℕ). n * w) (inv .many)
 
     -- one group more
-    pub grouped-more : {t : List ℤ} {rest′ : List ℕ} {others : ℕ} (g : Row) → groupsBy ks gs (map f (take left rest)) ≡ g ∷ groupsBy ks gs (map f (take others rest′)) → length g ≡ w → all inRange g ≡ true → t ≡ written s (to + groups * w) (map cell g) → Below count (take others rest′) → others < left → to + groups * w + w ≤ length s₀
+    pub grouped-more : {t : List ℤ} {rest′ : List ℕ} {others : ℕ} (g : Row)
+        → groupsBy ks gs (map f (take left rest)) ≡ g ∷ groupsBy ks gs (map f (take others rest′)) → length g ≡ w → all inRange g ≡ true
+        → t ≡ written s (to + groups * w) (map cell g) → Below count (take others rest′) → others < left → to + groups * w + w ≤ length s₀
         → Grouped ks gs f count w to s₀ t rest′ others (groups + 1)
     grouped-more {t} {rest′} {others} g e size range writes lower fewer fits = record {
       rows = inv .rows ++ (g ∷ []);
@@ -129,11 +147,16 @@ module _ (ks : List ℕ) (gs : List algebra.Aggregate) (f : ℕ → Row) (count 
     grouped-all h = let q : left ≡ 0 = omega arith in sym (append-nil (inv .rows)) ∙ (rw q at (inv .whole))
 
     pub grouped-makes : (limit : ℕ) → left ≤ 0 → count ≤ limit → Makes limit (groupsBy ks gs (map f (upto count))) to s₀ s (Rows groups)
-    grouped-makes limit h g = rw (← grouped-all h) (makes-rows limit (inv .rows) to s₀ s groups (inv .many) (omega (arith, inv .room)) (inv .ranged) (inv .stands))
+    grouped-makes limit h g =
+        rw (← grouped-all h) (makes-rows limit (inv .rows) to s₀ s groups (inv .many) (omega (arith, inv .room)) (inv .ranged) (inv .stands))
 
     -- a group is out of range
-    pub grouped-fails : (limit : ℕ) (t : List ℤ) (g : Row) (rs : List Row) → groupsBy ks gs (map f (take left rest)) ≡ g ∷ rs → all inRange g ≡ false → count ≤ limit → Makes limit (groupsBy ks gs (map f (upto count))) to s₀ t OutOfRange
+    pub grouped-fails : (limit : ℕ) (t : List ℤ) (g : Row) (rs : List Row) → groupsBy ks gs (map f (take left rest)) ≡ g ∷ rs → all inRange g ≡ false
+        → count ≤ limit → Makes limit (groupsBy ks gs (map f (upto count))) to s₀ t OutOfRange
     grouped-fails limit t g rs e range h =
-        let few : length (groupsBy ks gs (map f (upto count))) ≤ count = omega (arith, groups-few ks gs (map f (upto count)), length-map (upto count) f, length-upto count) in
-        let out : all (all inRange) (groupsBy ks gs (map f (upto count))) ≡ false = ap (all (all inRange)) (sym (inv .whole) ∙ ap (λ (l : List Row). inv .rows ++ l) e) ∙ rw (all-append (all inRange) (inv .rows) (g ∷ rs), inv .ranged, range) in
+        let few : length (groupsBy ks gs (map f (upto count))) ≤ count =
+        omega (arith, groups-few ks gs (map f (upto count)), length-map (upto count) f, length-upto count) in
+        let out : all (all inRange) (groupsBy ks gs (map f (upto count))) ≡ false =
+        ap (all (all inRange)) (sym (inv .whole) ∙ ap (λ (l : List Row). inv .rows ++ l) e) ∙ rw
+        (all-append (all inRange) (inv .rows) (g ∷ rs), inv .ranged, range) in
         makes-out limit (groupsBy ks gs (map f (upto count))) to s₀ t (omega arith) out

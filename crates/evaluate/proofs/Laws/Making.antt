@@ -1,6 +1,6 @@
 -- What an operator answers for the rows that it made: rows chosen, and rows with a new column.
 use mathlib.Core.Path.{_≡_, refl, sym, ap, _∙_}
-use mathlib.Core.Bool.{Bool, true, false, cond}
+use mathlib.Core.Bool.{Bool, true, false}
 use mathlib.Core.List.{List, [], _∷_, _++_, map}
 use Prim.Native.Nat.{ℕ, _+_, _*_, _<_, _≤_}
 use native.Mathlib.Omega.{arith}
@@ -8,8 +8,7 @@ use native.Mathlib.Nat.{mul-le-mul-right}
 use lib.IntN.{ℤ}
 use lib.ListN.{length, take, drop, set, length-map, length-append}
 use lib.Seq.{take-all, length-take-le}
-use lib.Dec.{leb}
-use borrow.Author.Tests.{le-leb, lt-leb, leb-true}
+use borrow.Author.Tests.{le-leb, lt-leb}
 use Rattle.algebra.specs.Lists.{all, keep, upto, done, more}
 use Rattle.algebra.specs.Value.{Value, Row}
 use Rattle.algebra.specs.Plan.{Conjunct}
@@ -23,12 +22,11 @@ use Rattle.evaluate.specs.declared.rows.Block.{Block}
 use Rattle.evaluate.specs.declared.made.Made.the-variants.{Rows, TooMany, OutOfRange}
 use Rattle.evaluate.specs.declared.operand.Operand.{Operand}
 use Rattle.evaluate.specs.declared.operand.Operand.the-variants.{Column, Fixed}
-use Rattle.evaluate.specs.declared.made.Made.{Made}
 use Rattle.evaluate.specs.Cells.{value, cell, inRange, rowIn, rowsIn, cellsOf, written}
 use Rattle.evaluate.specs.Rows.{source, placeOf, rowOf, rowsOf, Within, Before}
 use Rattle.evaluate.specs.Bindings.{taken, Light, combined}
 use Rattle.evaluate.specs.Choice.{matches}
-use Rattle.evaluate.specs.Made.{madeOf, Makes, counted}
+use Rattle.evaluate.specs.Made.{madeOf, Makes}
 use Rattle.evaluate.proofs.Laws.Cells.{cell-value, written-nothing, written-length, written-more, rows-length, rows-wide, cells-length, rows-next}
 use Rattle.evaluate.proofs.Laws.Partners.{partners-chosen, block-row, before-within, before-later, one-of}
 use Rattle.evaluate.proofs.Laws.Appending.{row-wide, row-more}
@@ -49,22 +47,6 @@ module _ (R : ℕ) (rows : List Row) (to : ℕ) (s t : List ℤ) where
   unfolding madeOf
   makes-out h g = record { answer = rw (le-leb (length rows) R h, g); stands = λ k q. cc }
 
-pub made-says : (R : ℕ) (rows : List Row) {r : Made} {k : ℕ} → r ≡ madeOf R rows → r ≡ Rows k → (k ≡ length rows) × (length rows ≤ R) × (all (all inRange) rows ≡ true)
-unfolding madeOf
-made-says R rows {r} {k} e q = go (leb (length rows) R) refl (all (all inRange) rows) refl (sym e ∙ q)
-  where
-    go : (a : Bool) → leb (length rows) R ≡ a → (b : Bool) → all (all inRange) rows ≡ b → cond a (cond b (Rows (length rows)) OutOfRange) TooMany ≡ Rows k → (k ≡ length rows) × (length rows ≤ R) × (all (all inRange) rows ≡ true)
-    go true ea true eb p = ((cc), leb-true _ _ ea, eb)
-    go true ea false eb p = let z : _≡_ {A = ℕ} 0 1 = cc in absurd (omega arith)
-    go false ea b eb p = let z : _≡_ {A = ℕ} 0 1 = cc in absurd (omega arith)
-
-pub counted-says : (R count : ℕ) {r : Made} {k : ℕ} → r ≡ counted R count → r ≡ Rows k → (k ≡ count) × (count ≤ R)
-counted-says R count {r} {k} e q = go (leb count R) refl (sym e ∙ q)
-  where
-    go : (a : Bool) → leb count R ≡ a → cond a (Rows count) TooMany ≡ Rows k → (k ≡ count) × (count ≤ R)
-    go true ea p = ((cc), leb-true _ _ ea)
-    go false ea p = let z : _≡_ {A = ℕ} 0 1 = cc in absurd (omega arith)
-
 -- ---- select
 
 -- the rows that were found are those that pass
@@ -74,7 +56,8 @@ pub select-makes : (o : Outer) (cs : List Conjunct) (cells s : List ℤ) (b : Bl
     → Makes limit (keep (passes o cs) (rowsOf cells s b)) to s t (Rows n)
 select-makes o cs cells s b limit to n found {t = t} p e h l g w =
     let q : map (rowOf cells s b) (take n found) ≡ keep (passes o cs) (rowsOf cells s b) =
-    partners-chosen o cs [] (source cells s b) (b .from) (b .width) (b .count) (e ∙ ap (λ (z : List ℤ). keep (matches o cs [] z (b .width)) (upto (b .count))) p) in
+    partners-chosen o cs [] (source cells s b) (b .from) (b .width) (b .count)
+    (e ∙ ap (λ (z : List ℤ). keep (matches o cs [] z (b .width)) (upto (b .count))) p) in
     makes-rows limit (keep (passes o cs) (rowsOf cells s b)) to s t n
     (ap length (sym q) ∙ length-map (take n found) (rowOf cells s b) ∙ length-take-le n found h)
     l
@@ -102,7 +85,8 @@ module _ (cells s : List ℤ) (b : Block) (t : ℕ) (first second : Operand) whe
       ∙ map-append (added t first second) (rowsIn (source cells s b) (b .from) (b .width) i) (rowOf cells s b i ∷ [])
 
   added-length : (i : ℕ) → length (addedTo cells s b t first second i) ≡ i
-  added-length i = length-map (rowsIn (source cells s b) (b .from) (b .width) i) (added t first second) ∙ rows-length (source cells s b) (b .from) (b .width) i
+  added-length i =
+      length-map (rowsIn (source cells s b) (b .from) (b .width) i) (added t first second) ∙ rows-length (source cells s b) (b .from) (b .width) i
 
   pub added-none : all (all inRange) (addedTo cells s b t first second 0) ≡ true
   unfolding rowsIn
@@ -153,7 +137,9 @@ module _ (cells s : List ℤ) (b : Block) (t : ℕ) (first second : Operand) whe
           ∙ same-before
 
       pub copied-long : length u ≡ length s
-      copied-long = ap length copied ∙ written-length scratch (to + i * (b .width + 1)) (map cell (rowOf cells scratch b i)) (omega (arith, below, scratch-long, long-cells)) ∙ scratch-long
+      copied-long =
+          ap length copied ∙ written-length scratch (to + i * (b .width + 1)) (map cell (rowOf cells scratch b i))
+          (omega (arith, below, scratch-long, long-cells)) ∙ scratch-long
 
       -- the row is still there, and read
       module _ {part : List ℤ} (read : part ≡ take (b .width) (drop (placeOf b i) (source cells u b))) where
@@ -169,7 +155,8 @@ module _ (cells s : List ℤ) (b : Block) (t : ℕ) (first second : Operand) whe
         part-row : rowIn part 0 (b .width) ≡ rowOf cells s b i
         part-row = ap (map value) (take-all (b .width) part (omega (arith, part-long))) ∙ part-values
 
-        pub operand-light : (x : Operand) {v : Value} → v ≡ taken x (rowIn part 0 (b .width)) → all (all inRange) (rowsOf cells s b) ≡ true → Light x → inRange v ≡ true
+        pub operand-light : (x : Operand) {v : Value} → v ≡ taken x (rowIn part 0 (b .width)) → all (all inRange) (rowsOf cells s b) ≡ true → Light x
+            → inRange v ≡ true
         operand-light x e h l =
             rw (e, part-row) (taken-light x (rowOf cells s b i) (one-of (source cells s b) (b .from) (b .width) (b .count) i (all inRange) h here) l)
 
@@ -207,19 +194,29 @@ module _ (cells s : List ℤ) (b : Block) (t : ℕ) (first second : Operand) whe
         (more (all-of inRange (every-append (every-all inRange (rowOf cells s b i) (one-of (source cells s b) (b .from) (b .width) (b .count) i (all inRange) h here))
         (more (rw known at l) done))) done)))
 
-    pub added-out : (limit to : ℕ) (u : List ℤ) → b .count ≤ limit → inRange v ≡ false → Makes limit (addedTo cells s b t first second (b .count)) to s u OutOfRange
-    added-out limit to u h l = makes-out limit (addedTo cells s b t first second (b .count)) to s u (rw (added-length (b .count)) h) (go (all (all inRange) (addedTo cells s b t first second (b .count))) refl)
+    pub added-out : (limit to : ℕ) (u : List ℤ) → b .count ≤ limit → inRange v ≡ false
+        → Makes limit (addedTo cells s b t first second (b .count)) to s u OutOfRange
+    added-out limit to u h l =
+        makes-out limit (addedTo cells s b t first second (b .count)) to s u (rw (added-length (b .count)) h)
+        (go (all (all inRange) (addedTo cells s b t first second (b .count))) refl)
       where
         go : (q : Bool) → all (all inRange) (addedTo cells s b t first second (b .count)) ≡ q → q ≡ false
         go false e = refl
         go true e =
-            let every = every-unmapped (added t first second) (rowsOf cells s b) (every-all (all inRange) (addedTo cells s b t first second (b .count)) e) in
-            let one = one-of (source cells s b) (b .from) (b .width) (b .count) i (λ r. all inRange (added t first second r)) (all-of (λ r. all inRange (added t first second r)) every) here in
-            let last = every-head (every-back (rowOf cells s b i) (combined t (taken first (rowOf cells s b i)) (taken second (rowOf cells s b i)) ∷ []) (every-all inRange (added t first second (rowOf cells s b i)) one)) in
+            let every =
+            every-unmapped (added t first second) (rowsOf cells s b) (every-all (all inRange) (addedTo cells s b t first second (b .count)) e) in
+            let one =
+            one-of (source cells s b) (b .from) (b .width) (b .count) i (λ r. all inRange (added t first second r))
+            (all-of (λ r. all inRange (added t first second r)) every) here in
+            let last =
+            every-head (every-back (rowOf cells s b i) (combined t (taken first (rowOf cells s b i)) (taken second (rowOf cells s b i)) ∷ [])
+            (every-all inRange (added t first second (rowOf cells s b i)) one)) in
             sym last ∙ sym (ap inRange known) ∙ l
 
-  pub added-end : (limit to i : ℕ) (u : List ℤ) → b .count ≤ limit → i ≤ b .count → b .count ≤ i → all (all inRange) (addedTo cells s b t first second i) ≡ true
-      → u ≡ written s to (cellsOf (addedTo cells s b t first second i)) → Makes limit (addedTo cells s b t first second (b .count)) to s u (Rows (b .count))
+  pub added-end : (limit to i : ℕ) (u : List ℤ) → b .count ≤ limit → i ≤ b .count → b .count ≤ i
+      → all (all inRange) (addedTo cells s b t first second i) ≡ true
+      → u ≡ written s to (cellsOf (addedTo cells s b t first second i)) → Makes limit (addedTo cells s b t first second (b .count)) to s u
+      (Rows (b .count))
   added-end limit to i u h l g r e =
       let q : i ≡ b .count = omega arith in
       makes-rows limit (addedTo cells s b t first second (b .count)) to s u (b .count) (added-length (b .count)) h (rw q at r) (rw q at e)

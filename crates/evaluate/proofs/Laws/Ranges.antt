@@ -106,5 +106,6 @@ module _ (p : ℤ → Bool) (xs : List ℤ) (i : ℕ) where
   pub one-fails : {b : Bool} (z : ℤ) → z ≡ getD xs i (pos 0) → b ≡ p z → not b ≡ true → i < length xs → false ≡ all p xs
   one-fails {b} z q e h l = front-fails p xs i (pos 0) l (ap p (sym q) ∙ sym e ∙ not-true b h)
 
-  pub one-passes : {b : Bool} (z : ℤ) → z ≡ getD xs i (pos 0) → b ≡ p z → not b ≡ false → i < length xs → all p (take i xs) ≡ true → all p (take (i + 1) xs) ≡ true
+  pub one-passes : {b : Bool} (z : ℤ) → z ≡ getD xs i (pos 0) → b ≡ p z → not b ≡ false → i < length xs → all p (take i xs) ≡ true
+      → all p (take (i + 1) xs) ≡ true
   one-passes {b} z q e h l a = front-more p xs i (pos 0) a l (ap p (sym q) ∙ sym e ∙ not-false b h)

@@ -32,7 +32,8 @@ abbrev pub leftSame : List ℕ → ℕ → Row → Row → ℕ → Bool
 leftSame ps count a b i = sameRow (picked (drop i (take count ps)) a) (picked (drop i (take count ps)) b)
 
 -- rows as parts of a slice
-pub part-width : (ps : List ℕ) (count : ℕ) (rows : List ℤ) (k i w : ℕ) (t : Bool) → t ≡ leftSame ps count (map value (take (k * w + w - k * w) (drop (k * w) rows))) (map value (take (i * w + w - i * w) (drop (i * w) rows))) 0
+pub part-width : (ps : List ℕ) (count : ℕ) (rows : List ℤ) (k i w : ℕ) (t : Bool)
+    → t ≡ leftSame ps count (map value (take (k * w + w - k * w) (drop (k * w) rows))) (map value (take (i * w + w - i * w) (drop (i * w) rows))) 0
     → t ≡ sameKey rows w (take count ps) k i
 part-width ps count rows k i w t e =
     let x : k * w + w - k * w ≡ w = omega arith in
@@ -52,7 +53,8 @@ module _ (ps : List ℕ) (count : ℕ) (a b : Row) (at : ℕ) (long : count ≤ 
   apart : at < count → (getD a (getD ps at 0) null ≡ getD b (getD ps at 0) null → ⊥) → false ≡ leftSame ps count a b at
   apart h f = rw (column h) (go (holds same (getD a (getD ps at 0) null) (getD b (getD ps at 0) null)) refl)
     where
-      go : (t : Bool) → holds same (getD a (getD ps at 0) null) (getD b (getD ps at 0) null) ≡ t → false ≡ (holds same (getD a (getD ps at 0) null) (getD b (getD ps at 0) null) && leftSame ps count a b (at + 1))
+      go : (t : Bool) → holds same (getD a (getD ps at 0) null) (getD b (getD ps at 0) null) ≡ t
+          → false ≡ (holds same (getD a (getD ps at 0) null) (getD b (getD ps at 0) null) && leftSame ps count a b (at + 1))
       go true e = absurd (f (sameValue-eq _ _ e))
       go false e = rw e
 
@@ -84,7 +86,9 @@ pub record Parted (p : ℕ → Bool) (r₀ f₀ : List ℕ) (n : ℕ) (r f : Lis
 
 module _ (p : ℕ → Bool) (r₀ f₀ : List ℕ) (n : ℕ) where
   pub parted-none : Parted p r₀ f₀ n r₀ f₀ 0 0 0
-  parted-none = record { within = omega arith; passing = refl; failing = refl; still = refl; few = omega arith; rather = omega arith; rest-long = refl; found-long = refl }
+  parted-none =
+      record
+      { within = omega arith; passing = refl; failing = refl; still = refl; few = omega arith; rather = omega arith; rest-long = refl; found-long = refl }
 
   module _ (q : ℕ → Bool) {x i : ℕ} (is : x ≡ getD r₀ i 0) (h : i < length r₀) where
     keep-in : q x ≡ true → keep q (take (i + 1) r₀) ≡ keep q (take i r₀) ++ (x ∷ [])
@@ -137,7 +141,8 @@ module _ (p : ℕ → Bool) (r₀ f₀ : List ℕ) (n : ℕ) where
 
     -- the number goes one way or the other
     pub parted-next : {r′ f′ : List ℕ} {members′ others′ x : ℕ} {t : Bool} → n ≤ length f₀ → x ≡ getD r i 0 → t ≡ p x
-        → ((t ≡ true) × (r′ ≡ r) × (f′ ≡ set f members (getD r i 0)) × (members′ ≡ members + 1) × (others′ ≡ others)) ⊎ ((t ≡ false) × (r′ ≡ set r others (getD r i 0)) × (f′ ≡ f) × (members′ ≡ members) × (others′ ≡ others + 1))
+        → ((t ≡ true) × (r′ ≡ r) × (f′ ≡ set f members (getD r i 0)) × (members′ ≡ members + 1) × (others′ ≡ others)) ⊎
+        ((t ≡ false) × (r′ ≡ set r others (getD r i 0)) × (f′ ≡ f) × (members′ ≡ members) × (others′ ≡ others + 1))
         → Parted p r₀ f₀ n r′ f′ members′ others′ (i + 1)
     parted-next k is says (inl w) = rw (w .1, w .2, w .3, w .4) (parted-member refl (rw (← is, ← says) (w .0)) k)
     parted-next k is says (inr w) = rw (w .1, w .2, w .3, w .4) (parted-other refl (rw (← is, ← says) (w .0)))

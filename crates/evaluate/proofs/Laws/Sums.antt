@@ -43,18 +43,22 @@ module _ (a b : ℤ) (least : Bool) (fits-a : SFits w64 a) (fits-b : SFits w64 b
     back-of false = toZ-ofZ w64 a fits-a
 
     -- the least of two numbers
-    pub better-least : (t : Bool) → least ≡ true → ltZ (toZ w64 (ofZ w64 b)) (toZ w64 (ofZ w64 a)) ≡ t → value (toZ w64 (ofZ w64 (cond t b a))) ≡ better (inOrder least) (value a) (value b)
+    pub better-least : (t : Bool) → least ≡ true → ltZ (toZ w64 (ofZ w64 b)) (toZ w64 (ofZ w64 a)) ≡ t
+        → value (toZ w64 (ofZ w64 (cond t b a))) ≡ better (inOrder least) (value a) (value b)
     better-least t e h = let q : ltZ b a ≡ t = rw (toZ-ofZ w64 b fits-b, toZ-ofZ w64 a fits-a) at h in rw (back-of t) (of-two t (rw e q))
 
     -- the greatest
-    pub better-greatest : (t : Bool) → least ≡ false → ltZ (toZ w64 (ofZ w64 a)) (toZ w64 (ofZ w64 b)) ≡ t → value (toZ w64 (ofZ w64 (cond t b a))) ≡ better (inOrder least) (value a) (value b)
+    pub better-greatest : (t : Bool) → least ≡ false → ltZ (toZ w64 (ofZ w64 a)) (toZ w64 (ofZ w64 b)) ≡ t
+        → value (toZ w64 (ofZ w64 (cond t b a))) ≡ better (inOrder least) (value a) (value b)
     better-greatest t e h = let q : ltZ a b ≡ t = rw (toZ-ofZ w64 a fits-a, toZ-ofZ w64 b fits-b) at h in rw (back-of t) (of-two t (rw e q))
 
 -- ---- a column of chosen rows
 
 -- past the width there are nulls
 cell-past : (rows : List ℤ) (width k p : ℕ) → width ≤ p → getD (rowAt rows width k) p null ≡ null
-cell-past rows width k p h = List·getD-eq-default (rowAt rows width k) null (omega (arith, length-map (take width (drop (k * width) rows)) value, length-take width (drop (k * width) rows)))
+cell-past rows width k p h =
+    List·getD-eq-default (rowAt rows width k) null
+    (omega (arith, length-map (take width (drop (k * width) rows)) value, length-take width (drop (k * width) rows)))
 
 column-entry : (rows : List ℤ) (width p : ℕ) {is : List ℕ} → There rows width is → p < width → (i : ℕ) → i < length is
     → getD (columnOf p (chosen rows width is)) i null ≡ value (getD rows (getD is i 0 * width + p) (pos 0))
@@ -71,7 +75,8 @@ unfolding value
 sum-past rows width p [] h = refl
 sum-past rows width p (k ∷ is) h = rw (cell-past rows width k p h) (sum-past rows width p is h)
 
-pub best-past : (rows : List ℤ) (width p : ℕ) (is : List ℕ) (before : Value → Value → Bool) → width ≤ p → value nullCell ≡ best before (columnOf p (chosen rows width is))
+pub best-past : (rows : List ℤ) (width p : ℕ) (is : List ℕ) (before : Value → Value → Bool) → width ≤ p
+    → value nullCell ≡ best before (columnOf p (chosen rows width is))
 unfolding value
 best-past rows width p [] before h = refl
 best-past rows width p (k ∷ is) before h = rw (cell-past rows width k p h) (best-past rows width p is before h)
@@ -79,15 +84,15 @@ best-past rows width p (k ∷ is) before h = rw (cell-past rows width k p h) (be
 -- ---- bounds, by the absolute value
 
 -- a value in range
-abbrev Light : Value → Type 0
-Light v = inRange v ≡ true
+abbrev InRange : Value → Type 0
+InRange v = inRange v ≡ true
 
-sum-abs : (vs : List Value) → Every Light vs → natAbs (addUp vs) ≤ length vs * 2 ^ 47
+sum-abs : (vs : List Value) → Every InRange vs → natAbs (addUp vs) ≤ length vs * 2 ^ 47
 sum-abs [] t = omega arith
 sum-abs (null ∷ vs) t = omega (arith, sum-abs vs (every-tail t))
 sum-abs (num z ∷ vs) t = omega (arith, sum-abs vs (every-tail t), small z (every-head t), abs-sum z (addUp vs))
 
-column-light : (p : ℕ) (rs : List Row) → all (all inRange) rs ≡ true → Every Light (columnOf p rs)
+column-light : (p : ℕ) (rs : List Row) → all (all inRange) rs ≡ true → Every InRange (columnOf p rs)
 column-light p rs e = every-mapped (λ r. getD r p null) (every-map (λ r h. entry-ranged r p h) (every-all (all inRange) rs e))
 
 -- ---- one row more, from the last to the first
@@ -118,39 +123,44 @@ module _ (rows : List ℤ) (width p : ℕ) (found : List ℕ) (n : ℕ) (few : n
     sum-fits : (j : ℕ) → SFits w64 (addUp (drop j vs))
     sum-fits j = fits-size (addUp (drop j vs)) (omega (arith, sum-small j))
 
-  module _ (i : ℕ) {k : ℕ} (there : There rows width (take n found)) (inside : p < width) (some : 0 < i) (below : i ≤ n) (read : k ≡ getD found (i - 1) 0) where
-    next : drop (i - 1) vs ≡ value (getD rows (k * width + p) (pos 0)) ∷ drop i vs
-    next =
-        let q : suc (i - 1) ≡ i = omega arith in
-        let l : i - 1 < n = omega arith in
-        drop-cons vs (i - 1) null (omega (arith, long))
-        ∙ rw (q, column-entry rows width p there inside (i - 1) (omega (arith, length-take-le n found few)), getD-take n found (i - 1) 0 l, ← read)
+  module _ (i : ℕ) {k : ℕ} (there : There rows width (take n found)) (inside : p < width) (some : 0 < i) (below : i ≤ n) (read : k ≡ getD found (i - 1) 0)
+    where
+      next : drop (i - 1) vs ≡ value (getD rows (k * width + p) (pos 0)) ∷ drop i vs
+      next =
+          let q : suc (i - 1) ≡ i = omega arith in
+          let l : i - 1 < n = omega arith in
+          drop-cons vs (i - 1) null (omega (arith, long))
+          ∙ rw (q, column-entry rows width p there inside (i - 1) (omega (arith, length-take-le n found few)), getD-take n found (i - 1) 0 l, ← read)
 
-    -- a null changes nothing
-    pub sum-null : (t : ℕ) → SFits w64 (getD rows (k * width + p) (pos 0)) → ofZ w64 (getD rows (k * width + p) (pos 0)) ≡ 2 ^ 63 → t ≡ ofZ w64 (addUp (drop i vs)) → t ≡ ofZ w64 (addUp (drop (i - 1) vs))
-    sum-null t h z e = rw (next, bits-null h z) e
+      -- a null changes nothing
+      pub sum-null : (t : ℕ) → SFits w64 (getD rows (k * width + p) (pos 0)) → ofZ w64 (getD rows (k * width + p) (pos 0)) ≡ 2 ^ 63
+          → t ≡ ofZ w64 (addUp (drop i vs)) → t ≡ ofZ w64 (addUp (drop (i - 1) vs))
+      sum-null t h z e = rw (next, bits-null h z) e
 
-    module _ (most : n ≤ 4096) (ranged : Ranged rows width (take n found)) (t : ℕ) (h : SFits w64 (getD rows (k * width + p) (pos 0))) (f : ofZ w64 (getD rows (k * width + p) (pos 0)) ≡ 2 ^ 63 → ⊥)
-        (e : t ≡ ofZ w64 (addUp (drop i vs))) where
-      sum-step : toZ w64 t +ℤ toZ w64 (ofZ w64 (getD rows (k * width + p) (pos 0))) ≡ addUp (drop (i - 1) vs)
-      sum-step =
-          let z : ℤ = getD rows (k * width + p) (pos 0) in
-          ap (λ (x : ℤ). x +ℤ toZ w64 (ofZ w64 z)) (ap (toZ w64) e ∙ toZ-ofZ w64 (addUp (drop i vs)) (sum-fits most ranged i))
-          ∙ ap (λ (x : ℤ). addUp (drop i vs) +ℤ x) (toZ-ofZ w64 z h)
-          ∙ +ℤ-comm (addUp (drop i vs)) z
-          ∙ rw (next, bits-number f)
+      module _ (most : n ≤ 4096) (ranged : Ranged rows width (take n found)) (t : ℕ) (h : SFits w64 (getD rows (k * width + p) (pos 0)))
+          (f : ofZ w64 (getD rows (k * width + p) (pos 0)) ≡ 2 ^ 63 → ⊥)
+          (e : t ≡ ofZ w64 (addUp (drop i vs))) where
+        sum-step : toZ w64 t +ℤ toZ w64 (ofZ w64 (getD rows (k * width + p) (pos 0))) ≡ addUp (drop (i - 1) vs)
+        sum-step =
+            let z : ℤ = getD rows (k * width + p) (pos 0) in
+            ap (λ (x : ℤ). x +ℤ toZ w64 (ofZ w64 z)) (ap (toZ w64) e ∙ toZ-ofZ w64 (addUp (drop i vs)) (sum-fits most ranged i))
+            ∙ ap (λ (x : ℤ). addUp (drop i vs) +ℤ x) (toZ-ofZ w64 z h)
+            ∙ +ℤ-comm (addUp (drop i vs)) z
+            ∙ rw (next, bits-number f)
 
-      pub sum-add-fits : SFits w64 (toZ w64 t +ℤ toZ w64 (ofZ w64 (getD rows (k * width + p) (pos 0))))
-      sum-add-fits = rw sum-step (sum-fits most ranged (i - 1))
+        pub sum-add-fits : SFits w64 (toZ w64 t +ℤ toZ w64 (ofZ w64 (getD rows (k * width + p) (pos 0))))
+        sum-add-fits = rw sum-step (sum-fits most ranged (i - 1))
 
-      pub sum-turn : ofZ w64 (toZ w64 t +ℤ toZ w64 (ofZ w64 (getD rows (k * width + p) (pos 0)))) ≡ ofZ w64 (addUp (drop (i - 1) vs))
-      sum-turn = ap (ofZ w64) sum-step
+        pub sum-turn : ofZ w64 (toZ w64 t +ℤ toZ w64 (ofZ w64 (getD rows (k * width + p) (pos 0)))) ≡ ofZ w64 (addUp (drop (i - 1) vs))
+        sum-turn = ap (ofZ w64) sum-step
 
-    pub best-turn : (before : Value → Value → Bool) (r z a : ℤ) → value r ≡ better before (value z) (value a) → z ≡ getD rows (k * width + p) (pos 0) → value a ≡ best before (drop i vs) → value r ≡ best before (drop (i - 1) vs)
-    best-turn before r z a e q h = e ∙ rw (next, q, h)
+      pub best-turn : (before : Value → Value → Bool) (r z a : ℤ) → value r ≡ better before (value z) (value a) → z ≡ getD rows (k * width + p) (pos 0)
+          → value a ≡ best before (drop i vs) → value r ≡ best before (drop (i - 1) vs)
+      best-turn before r z a e q h = e ∙ rw (next, q, h)
 
   module _ (i : ℕ) (end : i ≤ 0) where
-    pub sum-end : (most : n ≤ 4096) (ranged : Ranged rows width (take n found)) (t : ℕ) → t ≡ ofZ w64 (addUp (drop i vs)) → value (toZ w64 t) ≡ num (addUp vs)
+    pub sum-end : (most : n ≤ 4096) (ranged : Ranged rows width (take n found)) (t : ℕ) → t ≡ ofZ w64 (addUp (drop i vs))
+        → value (toZ w64 t) ≡ num (addUp vs)
     sum-end most ranged t e =
         let q : i ≡ 0 = omega arith in
         let r : t ≡ ofZ w64 (addUp vs) = rw q at e in

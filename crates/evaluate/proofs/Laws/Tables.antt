@@ -31,7 +31,8 @@ count-few counts e t = leb-true _ _ (every-at {P = λ c. leb c 4096 ≡ true} 0 
 
 table-narrow : (ws : List ℕ) → Sized ws → (t : ℕ) → t < tables ws → tableWidth ws t ≤ 64
 table-narrow ws s t h =
-    between-high 1 64 (tableWidth ws t) (upto-all (tables ws) (every-all (λ k. between 1 64 (tableWidth ws k)) (upto (tables ws)) (limited ws s .widths)) t h)
+    between-high 1 64 (tableWidth ws t)
+    (upto-all (tables ws) (every-all (λ k. between 1 64 (tableWidth ws k)) (upto (tables ws)) (limited ws s .widths)) t h)
 
 -- ---- where a table begins
 
@@ -93,17 +94,21 @@ module _ (ws counts : List ℕ) (cells : List ℤ) where
   cells-wrong ek es h = database-fails (λ a. h (a .whole ∙ sym (rw ek at es)))
 
   pub cells-decide : {m n : ℕ} → m ≡ tables ws → n ≡ m → length counts ≡ n → {r : Bool} → r ≡ all (λ c. leb c 4096) counts → not r ≡ false
-      → {k s : ℕ} → k ≡ tables ws → s ≡ tableStart ws counts k → length cells ≡ s → {a : Bool} → a ≡ all (λ z. inRange (value z)) cells → a ≡ databaseRight ws counts cells
+      → {k s : ℕ} → k ≡ tables ws → s ≡ tableStart ws counts k → length cells ≡ s → {a : Bool} → a ≡ all (λ z. inRange (value z)) cells → a ≡ databaseRight
+      ws counts cells
   unfolding databaseRight
   cells-decide em en l {r} er hr ek es h ea =
-      sym (rw (eq-eqb (length counts) (tables ws) (l ∙ en ∙ em), sym er, not-false r hr, eq-eqb (length cells) (tableStart ws counts (tables ws)) (h ∙ (rw ek at es))) (sym ea))
+      sym (rw
+      (eq-eqb (length counts) (tables ws) (l ∙ en ∙ em), sym er, not-false r hr, eq-eqb (length cells) (tableStart ws counts (tables ws)) (h ∙ (rw ek at es)))
+      (sym ea))
 
 -- ---- the rows of a table
 
 pub cells-ranged : (cells : List ℤ) → all (λ z. inRange (value z)) cells ≡ true → (from w count : ℕ) → all (all inRange) (rowsIn cells from w count) ≡ true
 unfolding rowsIn
 cells-ranged cells e from w count =
-    all-of (all inRange) (every-mapped (λ i. rowIn cells (from + i * w) w) (every-of (λ i. all-of inRange (every-mapped value (every-take w (every-drop (from + i * w) (every-all (λ z. inRange (value z)) cells e))))) (upto count)))
+    all-of (all inRange) (every-mapped (λ i. rowIn cells (from + i * w) w)
+    (every-of (λ i. all-of inRange (every-mapped value (every-take w (every-drop (from + i * w) (every-all (λ z. inRange (value z)) cells e))))) (upto count)))
 
 module _ (ws counts : List ℕ) (cells : List ℤ) (right : Right ws counts cells) (t : ℕ) (h : t < tables ws) where
   pub table-there : tableStart ws counts t + getD counts t 0 * tableWidth ws t ≤ length cells

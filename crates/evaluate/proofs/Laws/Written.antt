@@ -45,11 +45,13 @@ copied-more t at s₀ to i s inside room e z q =
     ∙ sym (take-suc (drop at t) i (pos 0) (omega (arith, length-drop at t)))
     ∙ ap (λ (k : ℕ). take k (drop at t)) (sym (add-one i)))
 
-pub copied-all : (t : List ℤ) (at : ℕ) (s₀ : List ℤ) (to i count : ℕ) (s : List ℤ) → count ≤ i → i ≤ count → Copied t at s₀ to i s → Copied t at s₀ to count s
+pub copied-all : (t : List ℤ) (at : ℕ) (s₀ : List ℤ) (to i count : ℕ) (s : List ℤ) → count ≤ i → i ≤ count → Copied t at s₀ to i s
+    → Copied t at s₀ to count s
 copied-all t at s₀ to i count s h g e = let q : i ≡ count = omega arith in rw q at e
 
 -- a cell before the place is as it was
-pub copied-before : (t : List ℤ) (at : ℕ) (s₀ : List ℤ) (to i : ℕ) (s : List ℤ) (k : ℕ) → Copied t at s₀ to i s → k < to → to ≤ length s₀ → getD s k (pos 0) ≡ getD s₀ k (pos 0)
+pub copied-before : (t : List ℤ) (at : ℕ) (s₀ : List ℤ) (to i : ℕ) (s : List ℤ) (k : ℕ) → Copied t at s₀ to i s → k < to → to ≤ length s₀
+    → getD s k (pos 0) ≡ getD s₀ k (pos 0)
 unfolding written
 copied-before t at s₀ to i s k e h g =
     ap (λ (l : List ℤ). getD l k (pos 0)) e
@@ -58,7 +60,8 @@ copied-before t at s₀ to i s k e h g =
 
 -- ---- the same cell, one a turn
 
-pub filled-more : (s₀ : List ℤ) (to i : ℕ) (v : ℤ) (s : List ℤ) → to + i < length s₀ → s ≡ written s₀ to (replicate i v) → set s (to + i) v ≡ written s₀ to (replicate (i + 1) v)
+pub filled-more : (s₀ : List ℤ) (to i : ℕ) (v : ℤ) (s : List ℤ) → to + i < length s₀ → s ≡ written s₀ to (replicate i v)
+    → set s (to + i) v ≡ written s₀ to (replicate (i + 1) v)
 filled-more s₀ to i v s h e =
     let p : to + length (replicate i v) ≡ to + i = ap (λ (k : ℕ). to + k) (length-replicate i v) in
     ap (λ (k : ℕ). set s k v) (sym p)
@@ -66,5 +69,6 @@ filled-more s₀ to i v s h e =
     ∙ written-more s₀ to (replicate i v) v (rw p h)
     ∙ ap (written s₀ to) (replicate-append-replicate i 1 v)
 
-pub filled-all : (s₀ : List ℤ) (to i count : ℕ) (v : ℤ) (s : List ℤ) → count ≤ i → i ≤ count → s ≡ written s₀ to (replicate i v) → s ≡ written s₀ to (replicate count v)
+pub filled-all : (s₀ : List ℤ) (to i count : ℕ) (v : ℤ) (s : List ℤ) → count ≤ i → i ≤ count → s ≡ written s₀ to (replicate i v)
+    → s ≡ written s₀ to (replicate count v)
 filled-all s₀ to i count v s h g e = let q : i ≡ count = omega arith in rw q at e

@@ -133,6 +133,13 @@ module _ (ws : List ℕ) (f : Formed ws) (n : ℕ) (h : n < nodes ws) where
   pub facts-at : NodeFacts ws n
   facts-at = node-facts ws n (f .formed n h)
 
+  -- the inputs of a dependent join are nodes
+  pub dependent-left : operator ws n ≡ 8 → left ws n < nodes ws
+  dependent-left e = omega (arith, facts-at .left-node (λ q. omega arith))
+
+  pub dependent-right : operator ws n ≡ 8 → right ws n < nodes ws
+  dependent-right e = omega (arith, facts-at .right-node (rw e))
+
   -- the inputs of node n by its words
   pub inputs-at : inputs (nodeAt ws n) ≡ cond (eqb (operator ws n) 1) [] (cond (hasRight (operator ws n)) (left ws n ∷ right ws n ∷ []) (left ws n ∷ []))
   inputs-at = inputs-for (left ws n) (right ws n) (kindOf (kind ws n)) (itemsOf ws n) (operator ws n) (facts-at .low) (facts-at .high)

@@ -6,7 +6,7 @@ use Prim.Native.Nat.{ℕ, zero, suc, _+_, _≤_, _<_}
 use native.Mathlib.Omega.{arith}
 use native.Mathlib.Numerals.{add-one}
 use lib.Dec.{ltb, eqb}
-use lib.ListN.{length, getD, set}
+use lib.ListN.{length, getD, replicate, set}
 use lib.Seq.{getD-set-same, getD-set-other}
 use borrow.Author.Tests.{ltb-true, ltb-false, ne-eqb}
 use Rattle.algebra.specs.Lists.{keep, all, upto, isEmpty, Every, done, more}
@@ -172,3 +172,9 @@ table-more table n meant {i} {v} before l q e m h = rw q (go (ltb m n) refl)
     go : (b : Bool) → ltb m n ≡ b → getD (set table n v) m 0 ≡ meant m
     go true t = let less : m < n = ltb-true m n t in getD-set-other table n m v 0 (omega arith) ∙ before m less
     go false t = let same : m ≡ n = omega (arith, ltb-false m n t) in rw same (getD-set-same table n v 0 l ∙ e)
+
+-- a table that starts with zeros
+pub zeros-at : (n i : ℕ) → _≡_ {A = ℕ} (getD (replicate n 0) i 0) 0
+zeros-at zero i = refl
+zeros-at (suc n) zero = refl
+zeros-at (suc n) (suc i) = zeros-at n i

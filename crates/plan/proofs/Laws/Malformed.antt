@@ -63,7 +63,7 @@ module _ (ws : List ℕ) (n : ℕ) {o l r : ℕ} (is-operator : o ≡ operator w
 -- ---- kinds
 
 -- joins and dependent joins have a kind
-kind-has : (o : ℕ) → (o ≡ 5) ⊎ (o ≡ 8) → hasKind o ≡ true
+pub kind-has : (o : ℕ) → (o ≡ 5) ⊎ (o ≡ 8) → hasKind o ≡ true
 kind-has o k = ⊎-elim (λ e. rw (eq-eqb o 5 e)) (λ e. rw e) k
 
 module _ (ws : List ℕ) (n : ℕ) {o k : ℕ} (is-operator : o ≡ operator ws n) (is-kind : k ≡ kind ws n) where

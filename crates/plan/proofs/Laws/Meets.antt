@@ -12,6 +12,7 @@ use Rattle.algebra.specs.Lists.{keep, all, isEmpty, each, upto, Every, done, mo
 use Rattle.algebra.specs.Plan.{Term, column, outer, constant, nothing, Conjunct, Computation, copy, add, subtract, Aggregate, Kind, inner, semi, anti, left-outer, Node, scan, select, compute, project, join, group, groupjoin, dependent}
 use Rattle.algebra.proofs.Lists.Every.{every-of, every-map, every-mapped, every-uneach, every-at}
 use Rattle.algebra.proofs.Lists.Keep.{each-append}
+use Rattle.algebra.proofs.Lists.Same.{and-both}
 use Rattle.plan.specs.Words.{Item, tables, nodes, items, tableWidth, itemCount}
 use Rattle.plan.specs.Items.{between, isConjunct, isKey, termRight, conjunctRight, computationRight, keyRight, outputRight, aggregateRight}
 use Rattle.plan.specs.Verdict.{inFront, itemsRight, hasRight, hasKind, itemsBefore, inputsRight, kindRight, countRight, nodeRight}
@@ -114,13 +115,9 @@ conjuncts-meet cs h = all-of conjunctRight (every-mapped conjunctItem (every-map
 aggregates-meet : (gs : List Aggregate) → all aggregateRight (map aggregateItem gs) ≡ true
 aggregates-meet gs = all-of aggregateRight (every-mapped aggregateItem (every-of aggregate-meets gs))
 
--- both sides of a conjunction hold
-and-holds : {a b : Bool} → a ≡ true → b ≡ true → (a && b) ≡ true
-and-holds e f = λ i. e i && f i
-
 -- items of one sort in front, of another behind
 in-front : (p q : Item → Bool) (m : ℕ) (xs ys : List Item) → length xs ≡ m → all p xs ≡ true → all q ys ≡ true → inFront p q m (xs ++ ys) ≡ true
-in-front p q m xs ys e f g = front-append p q m xs ys e ∙ and-holds f g
+in-front p q m xs ys e f g = front-append p q m xs ys e ∙ and-both _ _ f g
 
 -- a list with an element is not empty
 not-empty : {A : Type 0} (xs : List A) → 0 < length xs → not (isEmpty xs) ≡ true
@@ -133,7 +130,7 @@ items-meet T n (scan t) h e = refl
 items-meet T n (select cs i) h e = conjuncts-meet cs e
 items-meet T n (compute c i) h e = rw (computation-meets c e)
 items-meet T n (project ps i) h e =
-    and-holds
+    and-both _ _
     (not-empty (map (positionItem 12) ps) (omega (arith, length-map ps (positionItem 12))))
     (all-of outputRight (every-mapped (positionItem 12) (every-of (λ p. refl) ps)))
 items-meet T n (join k cs l r) h e = conjuncts-meet cs e
@@ -141,14 +138,14 @@ items-meet T n (group ks gs i) h e =
     let xs : List Item = map (positionItem 11) ks in
     let ys : List Item = map aggregateItem gs in
     let m : length (keep isKey (xs ++ ys)) ≡ length xs = ap length (keep-front (positionItem 11) aggregateItem isKey ks gs (λ p. refl) aggregate-not-key) in
-    and-holds
+    and-both _ _
     (not-empty (xs ++ ys) (omega (arith, length-append xs ys, length-map ks (positionItem 11), length-map gs aggregateItem)))
     (in-front keyRight aggregateRight (length (keep isKey (xs ++ ys))) xs ys (sym m) (all-of keyRight (every-mapped (positionItem 11) (every-of (λ p. refl) ks))) (aggregates-meet gs))
 items-meet T n (groupjoin cs gs l r) h e =
     let xs : List Item = map conjunctItem cs in
     let ys : List Item = map aggregateItem gs in
     let m : length (keep isConjunct (xs ++ ys)) ≡ length xs = ap length (keep-front conjunctItem aggregateItem isConjunct cs gs (λ c. tag-low (c .test)) aggregate-not-conjunct) in
-    and-holds
+    and-both _ _
     (lt-ltb (length (keep isConjunct (xs ++ ys))) (length (xs ++ ys)) (omega (arith, length-append xs ys, length-map gs aggregateItem)))
     (in-front conjunctRight aggregateRight (length (keep isConjunct (xs ++ ys))) xs ys (sym m) (conjuncts-meet cs e) (aggregates-meet gs))
 items-meet T n (dependent k cs l r) h e = conjuncts-meet cs e
@@ -171,7 +168,7 @@ module _ (widths : List ℕ) (ns : List Node) (d : Node) where
   count-right : (n : ℕ) → n < length ns → countRight (wordsOf widths ns) n ≡ true
   unfolding countRight itemsBefore
   count-right n h =
-      and-holds
+      and-both _ _
       (eq-eqb _ _ (encoded.first-of widths ns d n h ∙ sym (before-of n (omega arith))))
       (go (eqb (n + 1) (nodes ws)) refl)
     where
@@ -201,13 +198,13 @@ module _ (widths : List ℕ) (ns : List Node) (d : Node) where
       let l = encoded.left-of widths ns d n h in
       let r = encoded.right-of widths ns d n h in
       let k = encoded.kind-of widths ns d n h in
-      and-holds
+      and-both _ _
       (ap (between 1 8) o ∙ operator-meets x)
-      (and-holds
+      (and-both _ _
       ((λ i. inputsTest (encoded.tables-of widths ns i) n (o i) (l i) (r i)) ∙ inputs-meet (length widths) n x p)
-      (and-holds
+      (and-both _ _
       ((λ i. cond (hasKind (o i)) (between 1 4 (k i)) (eqb (k i) 0)) ∙ kind-meets x)
-      (and-holds
+      (and-both _ _
       (count-right n h)
       ((λ i. itemsRight (o i) (encoded.node-items-of widths ns d n h i)) ∙ items-meet (length widths) n x p e))))
 

@@ -6,11 +6,14 @@ use Prim.Native.Nat.{ℕ, _≤_, _<_}
 use native.Mathlib.Omega.{arith}
 use lib.ListN.{getD}
 use borrow.Author.Tests.{lt-ltb, le-ltb, ltb-false, not-false}
+use Rattle.algebra.proofs.Lists.Every.{every-map}
+use Rattle.algebra.proofs.Lists.Keep.{keep-none}
+use Rattle.algebra.proofs.Domains.Keys.{upto-below}
 use Rattle.plan.specs.Words.{nodes}
 use Rattle.plan.specs.Verdict.{Answer, accepted, lowest, headerRight, limitsRight, nodeRight, isUnusedNode, widthAt, isTooWide, isOpenTwice, columnsRight, orElse, verdict}
-use Rattle.plan.specs.Promise.{Sized, Formed}
+use Rattle.plan.specs.Promise.{Sized, Formed, Accepted}
 use Rattle.plan.specs.Passes.{Measured, Widths}
-use Rattle.plan.proofs.Laws.Loops.{lowest-not}
+use Rattle.plan.proofs.Laws.Loops.{lowest-not, lowest-none}
 
 -- refusal k at the lowest fault, or what comes after it
 module _ (k : ℕ) (fault : ℕ → Bool) (bound : ℕ) (rest : Answer) where
@@ -73,3 +76,12 @@ module _ (ws : List ℕ) where
   pub all-narrow : (rows : List ℕ) (narrow : ℕ) → Measured ws rows narrow → nodes ws ≤ narrow → (i : ℕ) → i < nodes ws → getD rows i 0 ≤ 64
   all-narrow rows narrow m h i l =
       rw (m .each i (omega arith)) (ltb-false 64 (widthAt ws i) (lowest-not (isTooWide ws) (nodes ws) (rw (m .first) at h) i l))
+
+-- the widths of an accepted plan are all worked out, since none is over 64
+pub widths-all : (ws rows : List ℕ) (narrow : ℕ) → Accepted ws → Measured ws rows narrow → Widths ws rows
+widths-all ws rows narrow a m = all-measured ws rows narrow m (omega (arith, m .first, none-wide))
+  where
+    none-wide : nodes ws ≡ lowest (isTooWide ws) (nodes ws)
+    none-wide =
+        lowest-none (isTooWide ws) (nodes ws)
+        (keep-none (isTooWide ws) (every-map (λ n h. le-ltb 64 (widthAt ws n) (a .narrow n h)) (upto-below (nodes ws))))

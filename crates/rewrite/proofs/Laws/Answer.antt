@@ -13,25 +13,21 @@ use Rattle.algebra.specs.Lists.{each, upto}
 use Rattle.algebra.specs.Plan.{Node}
 use Rattle.algebra.specs.Columns.{Shape, shapeAt}
 use Rattle.algebra.proofs.Lists.Same.{and-left, and-right}
-use Rattle.algebra.proofs.Lists.Every.{every-map, every-of}
-use Rattle.algebra.proofs.Lists.Keep.{keep-none}
-use Rattle.algebra.proofs.Domains.Keys.{upto-all, upto-below}
+use Rattle.algebra.proofs.Lists.Every.{every-of}
+use Rattle.algebra.proofs.Domains.Keys.{upto-all}
 use Rattle.plan.specs.Words.{tables, nodes, tableWidth}
 use Rattle.plan.specs.Plan.{widthsOf}
 use Rattle.plan.specs.declared.Refusal.{Refusal}
 use Rattle.plan.specs.declared.Refusal.the-variants.{Header, Limits, Malformed, Unused, TooWide, OpenTwice, NoColumn}
 use Rattle.plan.specs.Answers.{refusalOf}
-use Rattle.plan.specs.Verdict.{accepted, lowest, widthAt, isTooWide, verdict}
-use Rattle.plan.specs.Promise.{Accepted}
-use Rattle.plan.specs.Passes.{Measured, Widths}
+use Rattle.plan.specs.Verdict.{accepted, verdict}
 use Rattle.plan.specs.Encoding.{allItems, wordsOf}
 use Rattle.plan.proofs.Promise.{promise}
 use Rattle.plan.proofs.Laws.Encoded.{length-of}
 use Rattle.plan.proofs.Laws.Formed.{limited}
 use Rattle.plan.proofs.Laws.Header.{header-says}
-use Rattle.plan.proofs.Laws.Loops.{all-of, lowest-none}
+use Rattle.plan.proofs.Laws.Loops.{all-of}
 use Rattle.plan.proofs.Laws.Numbered.{every-all, numbered, numbered-length}
-use Rattle.plan.proofs.Laws.Verdict.{all-measured}
 use Rattle.plan.proofs.Laws.Words.{word-read}
 use Rattle.rewrite.specs.declared.page.Cursor.{Cursor}
 use Rattle.rewrite.specs.declared.Rewritten.the-variants.{Words, Refused, OverLimits, NoRoom}
@@ -40,16 +36,6 @@ use Rattle.rewrite.specs.Answer.{withinLimits, newPlan, newWords, refusa
 use Rattle.rewrite.specs.Output.{total, table}
 use Rattle.rewrite.specs.Pages.{Fits, Holds, Finished}
 use Rattle.rewrite.proofs.Laws.Pages.{shape-past}
-
--- ---- the widths
-
--- the widths of an accepted plan are all worked out, since none is over 64
-pub widths-all : (ws rows : List ℕ) (narrow : ℕ) → Accepted ws → Measured ws rows narrow → Widths ws rows
-widths-all ws rows narrow a m =
-    all-measured ws rows narrow m (omega (arith, m .first, all-narrow))
-  where
-    all-narrow : nodes ws ≡ lowest (isTooWide ws) (nodes ws)
-    all-narrow = lowest-none (isTooWide ws) (nodes ws) (keep-none (isTooWide ws) (every-map (λ n h. le-ltb 64 (widthAt ws n) (a .narrow n h)) (upto-below (nodes ws))))
 
 -- ---- the limits
 

@@ -18,7 +18,7 @@ use Rattle.plan.specs.Words.{Item, nodes, operator, left, right, kind, itemsOf}
 use Rattle.plan.specs.Plan.{kindOf, nodeFor, nodeAt, widthsOf, nodesOf}
 use Rattle.plan.specs.Verdict.{widthAt}
 use Rattle.plan.specs.Promise.{Accepted}
-use Rattle.plan.proofs.Laws.Formed.{NodeFacts, by-operator, facts-at}
+use Rattle.plan.proofs.Laws.Formed.{NodeFacts, by-operator, facts-at, dependent-left, dependent-right}
 use Rattle.rewrite.specs.declared.domain.Domain as code
 use Rattle.rewrite.specs.declared.page.Cursor.{Cursor}
 use Rattle.rewrite.specs.Pages.{Fits, Page, Grows, GrowsOver, copyOf}
@@ -131,18 +131,9 @@ module _ (ws : List ℕ) (a : Accepted ws) (n : ℕ) (h : n < nodes ws) where
     stays = over-stays (λ out. out ++ (copyOf (λ i. getD images i 0) x ∷ [])) (λ out. extends-one out _) g;
   }
 
-  -- the inputs of a dependent join
-  low : operator ws n ≡ 8 → left ws n < n
-  low e = facts .left-node (λ q. omega arith)
-
+  -- the right input of a dependent join
   right-low : operator ws n ≡ 8 → right ws n < n
   right-low e = facts .right-node (rw e)
-
-  pub left-node : operator ws n ≡ 8 → left ws n < nodes ws
-  left-node e = omega (arith, low e)
-
-  pub right-node : operator ws n ≡ 8 → right ws n < nodes ws
-  right-node e = omega (arith, right-low e)
 
   -- a dependent join whose right side is open
   module _ (eight : operator ws n ≡ 8) (closes : closed (shape n) ≡ true) (opens : closed (shape (right ws n)) ≡ false) where
@@ -158,7 +149,7 @@ module _ (ws : List ℕ) (a : Accepted ws) (n : ℕ) (h : n < nodes ws) where
     -- the keys of its domain
     pub keys-are : {d : code.Domain} (table : List ℕ) (set r : ℕ) → Means d outside → ReadsTable ws (nodes ws) table → r ≡ right ws n → KeySet d r table set → members set ≡ domainKeys outside w reads
     keys-are table set r m read er keyed =
-        keyed ws outside w m (λ i l p g. read i l p (omega (arith, right-low eight))) (omega (arith, a .narrow (left ws n) (left-node eight))) (rw er (spotted ws a n h outside within eight))
+        keyed ws outside w m (λ i l p g. read i l p (omega (arith, right-low eight))) (omega (arith, a .narrow (left ws n) (dependent-left ws (a .formed) n h eight))) (rw er (spotted ws a n h outside within eight))
         ∙ ap (λ (k : ℕ). domainKeys outside w (readsAt ws k)) er
 
     module _ (images ks : List ℕ) (keys : ks ≡ domainKeys outside w reads) where
@@ -225,7 +216,7 @@ module _ (ws : List ℕ) (a : Accepted ws) (n : ℕ) (h : n < nodes ws) where
             -- the right side is the last node
             right-last : y .ok ≡ true → j ≡ under out .at
             right-last e =
-                last-is (under out) put-page (put-end ws (a .formed) (λ k. getD images k 0) (right ws n) (right-node eight) (innerDomain outside w reads (length out)) (front out)) e ej
+                last-is (under out) put-page (put-end ws (a .formed) (λ k. getD images k 0) (right ws n) (dependent-right ws (a .formed) n h eight) (innerDomain outside w reads (length out)) (front out)) e ej
 
             join-page : Page (widthsOf ws) nodes₃ items₃ rows₃ z (closing ws (λ k. getD images k 0) n out .out) []
             join-page =

@@ -12,7 +12,7 @@ use Rattle.algebra.specs.Plan.{Aggregate, Computation, Conjunct, Node, Term, ad
 use Rattle.algebra.specs.Columns.{Column, computationReads, conjunctReads, past, pastOne, readsOf, termReads}
 use Rattle.algebra.specs.Domains.{Domain, around, below, domainFirst, domainKeys, innerDomain, inside, match, moveAggregate, moveComputation, moveConjunct, moveTerm, shift, shiftBoth, span, spot, underBoth, underInner}
 use Rattle.algebra.specs.Statements.{InLeft}
-use Rattle.algebra.proofs.Lists.Same.{and-left, and-right}
+use Rattle.algebra.proofs.Lists.Same.{and-left, and-right, and-both}
 use Rattle.algebra.proofs.Lists.Every.{any-none, any-self, every-append, every-back, every-both, every-front, every-head, every-keep, every-map, every-mapped, every-tail, every-uneach, every-unkeep}
 use Rattle.algebra.proofs.Tables.Tidy.{closed-back, closed-front}
 use Rattle.algebra.proofs.Domains.Keys.{rank-below, ranks, upto-all, upto-below}
@@ -21,10 +21,6 @@ use Rattle.plan.proofs.Laws.Loops.{all-append, all-of}
 use Rattle.plan.proofs.Laws.Numbered.{every-all}
 
 -- ---- tests of all elements
-
--- two tests that pass
-pub and-both : (a b : Bool) → a ≡ true → b ≡ true → (a && b) ≡ true
-and-both a b e f = rw (e, f)
 
 module _ {A : Type 0} (p : A → Bool) where
   -- two lists behind each other

@@ -12,14 +12,14 @@ use Rattle.algebra.specs.Columns.{Shape, computationReads, conjunctReads, past,
 use Rattle.algebra.specs.Domains.{Domain, inside, moveAggregate, moveConjunct, shift, underBoth}
 use Rattle.algebra.specs.Rewriting.{Piece, Placed, emit, joinClosed, joinOpen, joinUnder, openUnder, unnest}
 use Rattle.algebra.specs.Statements.{Fine, InLeft}
-use Rattle.algebra.proofs.Lists.Same.{and-left, and-right}
+use Rattle.algebra.proofs.Lists.Same.{and-left, and-right, and-both}
 use Rattle.algebra.proofs.Lists.Every.{every-back, every-front, every-map}
 use Rattle.algebra.proofs.Columns.Picked.{length-upto}
 use Rattle.algebra.proofs.Domains.Keys.{upto-below}
 use Rattle.algebra.proofs.Tables.Nodes.{joinWidth-under}
 use Rattle.plan.specs.Verdict.{aggregateThere, columnsThere, conjunctThere}
 use Rattle.rewrite.specs.Pages.{Stands}
-use Rattle.rewrite.proofs.Laws.Columns.{Held, aggregates-moved, and-both, both-there, computation-moved, conjuncts-moved, first-there, inside-held, left-there, match-there}
+use Rattle.rewrite.proofs.Laws.Columns.{Held, aggregates-moved, both-there, computation-moved, conjuncts-moved, first-there, inside-held, left-there, match-there}
 use Rattle.rewrite.proofs.Laws.ColumnsWritten.{Grows, Sits, Wrote, grows-both, stands-grows, wrote, wrote-after, wrote-dropping, wrote-join, wrote-unnest, wrote-width}
 
 module _ (widths : List ℕ) (out : List Node) (at : ℕ → Piece) (count : ℕ) (sits : (i : ℕ) → i < count → Sits widths out (at i))

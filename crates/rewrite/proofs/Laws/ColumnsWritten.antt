@@ -14,9 +14,10 @@ use Rattle.algebra.specs.Rewriting.{Piece, Placed, closedPut, dropping, emit, u
 use Rattle.algebra.specs.Statements.{InLeft}
 use Rattle.algebra.proofs.Lists.Entries.{entry-before, entry-last}
 use Rattle.algebra.proofs.Columns.Picked.{length-upto}
+use Rattle.algebra.proofs.Lists.Same.{and-both}
 use Rattle.plan.specs.Verdict.{columnsThere, conjunctThere}
 use Rattle.rewrite.specs.Pages.{Stands}
-use Rattle.rewrite.proofs.Laws.Columns.{Held, and-both, around-there, columns-all, inner-held, inner-there, keys-below, keys-ranked}
+use Rattle.rewrite.proofs.Laws.Columns.{Held, around-there, columns-all, inner-held, inner-there, keys-below, keys-ranked}
 
 module _ (widths : List ℕ) where
   -- the width of node i of the nodes written

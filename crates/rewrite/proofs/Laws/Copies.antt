@@ -11,11 +11,12 @@ use Rattle.algebra.specs.Plan.{Node, scan, select, compute, project, join, grou
 use Rattle.plan.specs.Words.{Item, nodes, tables, tableWidth, operator, left, right, kind, firstItem, itemCount, itemsFrom, itemsOf}
 use Rattle.plan.specs.Items.{isAggregate, aggregateOf}
 use Rattle.plan.specs.Plan.{kindOf, nodeFor, nodeAt, widthsOf}
-use Rattle.plan.specs.Verdict.{hasKind, hasRight}
+use Rattle.plan.specs.Verdict.{hasRight}
 use Rattle.plan.specs.Promise.{Accepted}
 use Rattle.plan.specs.Encoding.{kindWord, parts}
 use Rattle.plan.proofs.Laws.Fitting.{narrow}
 use Rattle.plan.proofs.Laws.Formed.{NodeFacts, by-operator, facts-at, limited}
+use Rattle.plan.proofs.Laws.Malformed.{kind-has}
 use Rattle.plan.proofs.Laws.Numbered.{numbered-at}
 use Rattle.plan.proofs.Laws.Rebuilt.{items-again}
 use Rattle.plan.proofs.Laws.Written.{node-items}
@@ -45,11 +46,7 @@ all-small (w ∷ ws) h = more (h 0) (all-small ws (λ i. h (suc i)))
 
 -- ---- the head of a copy
 
--- joins have a kind and a right input, groupjoins a right input
-kinded : (o : ℕ) → (o ≡ 5) ⊎ (o ≡ 8) → hasKind o ≡ true
-kinded o (inl e) = rw e
-kinded o (inr e) = rw e
-
+-- joins have a right input
 pub paired : (o : ℕ) → (o ≡ 5) ⊎ (o ≡ 8) → hasRight o ≡ true
 paired o (inl e) = rw e
 paired o (inr e) = rw e
@@ -152,7 +149,7 @@ module _ (ws : List ℕ) (a : Accepted ws) (n : ℕ) (h : n < nodes ws) where
           let f : (operator ws n ≡ 5) ⊎ (operator ws n ≡ 8) = rw eo at q in
           copied _ 0
           (rw (ep, ei, el, ej, er, ek) (join-head (widthsOf ws) images (left ws n) (right ws n) (kind ws n) (itemsOf ws n) (operator ws n) f
-          (kind-again (kind ws n) (facts .kind-low (kinded (operator ws n) f)) (facts .kind-high (kinded (operator ws n) f)))))
+          (kind-again (kind ws n) (facts .kind-low (kind-has (operator ws n) f)) (facts .kind-high (kind-has (operator ws n) f)))))
           pushed
 
       pub copied-groupjoin : (i r j extra : ℕ) → o ≡ 7 → i ≡ images l → r ≡ right ws n → j ≡ images r → extra ≡ length (keep isAggregate (itemsFrom ws x y))

@@ -7,6 +7,7 @@ use lib.ListN.{length, getD, replicate}
 use borrow.Author.Tests.{le-leb, lt-leb}
 use Rattle.algebra.specs.Columns.{Column}
 use Rattle.algebra.specs.Domains as algebra
+use Rattle.plan.proofs.Laws.Loops.{zeros-at}
 use Rattle.rewrite.specs.declared.domain.Domain.{Domain}
 use Rattle.rewrite.specs.Sets.{rank, members}
 use Rattle.rewrite.specs.Domains.{climb, start, placeIn, Means, Inner}
@@ -71,18 +72,12 @@ module _ {d r : Domain} {n w set base : ℕ} (i : Inner d r n w set base) where
 
 -- ---- what they mean
 
--- an array of zeros
-pub none-at : (n k : ℕ) → _≡_ {A = ℕ} (getD (replicate n 0) k 0) 0
-none-at zero k = refl
-none-at (suc n) zero = refl
-none-at (suc n) (suc k) = none-at n k
-
 pub outside-means : Means (record { node = 0; width = 0; sets = replicate 8 0; bases = replicate 8 0 }) algebra.outside
 outside-means = record {
   node = refl;
   width = refl;
   narrow = omega arith;
-  place = λ l p h. climb-none (replicate 8 0) l (start (getD (replicate 8 0) l 0) p) (none-at 8);
+  place = λ l p h. climb-none (replicate 8 0) l (start (getD (replicate 8 0) l 0) p) (zeros-at 8);
 }
 
 -- the domain that a node gives over the columns ks

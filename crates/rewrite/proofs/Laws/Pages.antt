@@ -16,8 +16,8 @@ use Rattle.algebra.specs.Plan.{inner, semi, anti, left-outer, Node, scan, selec
 use Rattle.algebra.specs.Columns.{Shape, shapeless, shapeOf, shapeAt}
 use Rattle.algebra.proofs.Lists.Keep.{each-append}
 use Rattle.algebra.proofs.Lists.Entries.{entries-length, entry-before, entry-last}
+use Rattle.plan.proofs.Laws.Loops.{zeros-at}
 use Rattle.plan.specs.Encoding.{parts, nodeWords, allItems}
-use Rattle.rewrite.proofs.Laws.Domains.{none-at}
 use Rattle.rewrite.specs.declared.page.Cursor.{Cursor}
 use Rattle.rewrite.specs.declared.page.Head.{Head}
 use Rattle.rewrite.specs.Pages.{Fits, Holds, Page, Added, widthBy, extraOf, Headed, Pushed}
@@ -250,7 +250,7 @@ page-start widths nodes items rows f = record { holds = λ t. here; over = λ t.
     }
 
 pub page-zero : (widths nodes items : List ℕ) (n : ℕ) → Page widths nodes items (replicate n 0) (record { nodes = 0; items = 0; ok = true }) [] []
-page-zero widths nodes items n = page-start widths nodes items (replicate n 0) (none-at n)
+page-zero widths nodes items n = page-start widths nodes items (replicate n 0) (zeros-at n)
 
 -- ---- one node more
 

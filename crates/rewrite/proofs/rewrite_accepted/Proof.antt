@@ -1,8 +1,9 @@
 use native.Mathlib.Omega.{arith}
 use borrow.Author.Needs.{needs}
 use borrow.Author.Tests.{not-true, not-false}
+use Rattle.plan.proofs.Laws.Verdict.{widths-all}
 use Rattle.plan.proofs.Promise.{promise}
-use Rattle.rewrite.proofs.Laws.Answer.{widths-all, refused-over, few-words, refused-room, written}
+use Rattle.rewrite.proofs.Laws.Answer.{refused-over, few-words, refused-room, written}
 use Rattle.rewrite.proofs.rewrite_accepted.Statement.{statement}
 use Rattle.rewrite.proofs.rewrite_accepted.Tie as tie
 

@@ -44,30 +44,38 @@ best-of-requires-2 c κs = search needs
 
 returns : tie.Need-returns
 returns c =
-    let d = c .before .before .before .before in
-    let a = d .args in
-    count-item _ (chosen (a .rows .now) (a .width) (take (a .n) (a .found .now))) (c .before .tag .ensures) (c .match .keys1) (counted-rows (a .rows .now) (a .width) (a .found .now) (a .n) (d .pre .1 .0) (d .pre .1 .1))
+    let start = c .before .before .before .before in
+    let a = start .args in
+    count-item _ (chosen (a .rows .now) (a .width) (take (a .n) (a .found .now))) (c .before .tag .ensures) (c .match .keys1)
+    (counted-rows (a .rows .now) (a .width) (a .found .now) (a .n) (start .pre .1 .0) (start .pre .1 .1))
 
 returns-2 : tie.Need-returns-2
 returns-2 c =
-    let m = c .before .before .before in
-    let a = m .before .before .before .before .args in
+    let after-tag = c .before .before .before .before in
+    let a = after-tag .before .before .before .args in
     let r = c .sum-of in
-    sum-item _ (chosen (a .rows .now) (a .width) (take (a .n) (a .found .now))) (m .before .tag .ensures) _ (c .before .wide .ensures ∙ c .before .before .position .ensures) (m .match .keys2) (ap value (toZ-ofZ w64 (r .result) (record { sfits = r .ok })) ∙ r .ensures)
+    sum-item _ (chosen (a .rows .now) (a .width) (take (a .n) (a .found .now))) (after-tag .tag .ensures) _
+    (c .before .wide .ensures ∙ c .before .before .position .ensures) (c .before .before .before .match .keys2)
+    (ap value (toZ-ofZ w64 (r .result) (record { sfits = r .ok })) ∙ r .ensures)
 
 returns-3 : tie.Need-returns-3
 returns-3 c =
-    let m = c .before .before .before in
-    let a = m .before .before .before .before .args in
+    let after-tag = c .before .before .before .before in
+    let a = after-tag .before .before .before .args in
     let r = c .best-of in
-    least-item _ (chosen (a .rows .now) (a .width) (take (a .n) (a .found .now))) (m .before .tag .ensures) _ (c .before .wide2 .ensures ∙ c .before .before .position2 .ensures) (m .match .keys3) (ap value (toZ-ofZ w64 (r .result) (record { sfits = r .ok })) ∙ r .ensures)
+    least-item _ (chosen (a .rows .now) (a .width) (take (a .n) (a .found .now))) (after-tag .tag .ensures) _
+    (c .before .wide2 .ensures ∙ c .before .before .position2 .ensures) (c .before .before .before .match .keys3)
+    (ap value (toZ-ofZ w64 (r .result) (record { sfits = r .ok })) ∙ r .ensures)
 
 returns-4 : tie.Need-returns-4
 returns-4 c =
-    let m = c .before .before .before in
-    let a = m .before .before .before .before .args in
+    let after-match = c .before .before .before in
+    let start = after-match .before .before .before .before in
+    let a = start .args in
     let r = c .best-of2 in
-    greatest-item _ (chosen (a .rows .now) (a .width) (take (a .n) (a .found .now))) (m .before .tag .ensures) _ (c .before .wide3 .ensures ∙ c .before .before .position3 .ensures) (m .match .rest .0 .0 .1) (m .match .rest .0 .1) (m .match .rest .1) (ap value (toZ-ofZ w64 (r .result) (record { sfits = r .ok })) ∙ r .ensures)
+    greatest-item _ (chosen (a .rows .now) (a .width) (take (a .n) (a .found .now))) (after-match .before .tag .ensures) _
+    (c .before .wide3 .ensures ∙ c .before .before .position3 .ensures) (after-match .match .rest .0 .0 .1) (after-match .match .rest .0 .1)
+    (after-match .match .rest .1) (ap value (toZ-ofZ w64 (r .result) (record { sfits = r .ok })) ∙ r .ensures)
 
 pub aggregate-cell-spec : {M : Type 1} → statement M
 aggregate-cell-spec =

@@ -43,17 +43,18 @@ rows-requires c κs =
 
 aggregate-cell-requires : tie.Need-aggregate-cell-requires Inv-loop μ-loop
 aggregate-cell-requires c κs =
-    let d = c .before .before .before .before .before .before in
-    let a = d .args in
+    let start = c .before .before .before .before .before .before in
+    let a = start .args in
     let l = c .before .before .before .loop in
     let is = take (a .n) (a .found .now) in (
-      item-passes _ (a .words .now) (a .j) (l .i) (a .count) (d .pre .0 .1) (c .before .before .loop-test .taken),
+      item-passes _ (a .words .now) (a .j) (l .i) (a .count) (start .pre .0 .1) (c .before .before .loop-test .taken),
       (
-        d .pre .1 .0,
-        d .pre .1 .1,
-        chosen-there (a .cells .now) (l .scratch) (a .b) (a .to) (d .pre .1 .3) (d .pre .1 .2) (omega arith) (c .rows .ensures),
-        d .pre .1 .5,
-        turn-ranged (a .words .now) (a .j) (a .cells .now) (a .scratch .now) (a .b) (a .to) is (d .pre .1 .2) (d .pre .1 .3) (l .i) (l .scratch) _ (omega arith) (l .inv .3) (c .rows .ensures) (d .pre .1 .6),
+        start .pre .1 .0,
+        start .pre .1 .1,
+        chosen-there (a .cells .now) (l .scratch) (a .b) (a .to) (start .pre .1 .3) (start .pre .1 .2) (omega arith) (c .rows .ensures),
+        start .pre .1 .5,
+        turn-ranged (a .words .now) (a .j) (a .cells .now) (a .scratch .now) (a .b) (a .to) is (start .pre .1 .2) (start .pre .1 .3) (l .i)
+            (l .scratch) _ (omega arith) (l .inv .3) (c .rows .ensures) (start .pre .1 .6),
       ),
     )
 
@@ -65,13 +66,20 @@ same-length c = search needs
 
 returns : tie.Need-returns Inv-loop μ-loop
 returns c =
-    let d = c .before .before .before .before .before .before .before .before .before in
-    let a = d .args in
-    let l = c .before .before .before .before .before .before .loop in
+    let turn = c .before .before .before .before .before .before in
+    let start = turn .before .before .before in
+    let a = start .args in
+    let l = turn .loop in
     let r = c .before .before .aggregate-cell in
     let is = take (a .n) (a .found .now) in
-    let e = turn-entry (a .words .now) (a .j) (a .cells .now) (a .scratch .now) (a .b) (a .to) is (d .pre .1 .2) (d .pre .1 .3) (l .i) (l .scratch) _ (omega arith) (l .inv .3) (c .before .before .before .rows .ensures) (r .result) _ (r .ensures) (toZ-ofZ w64 (r .result) (record { sfits = r .ok })) in
-    (range-fails (a .words .now) (a .j) (map (rowOf (a .cells .now) (a .scratch .now) (a .b)) is) (l .i) (a .count) (ap inRange (sym e) ∙ sym (c .before .in-range .ensures) ∙ not-true _ (c .if1 .taken)) (omega arith), λ q. absurd (false≢true q))
+    let e =
+    turn-entry (a .words .now) (a .j) (a .cells .now) (a .scratch .now) (a .b) (a .to) is (start .pre .1 .2) (start .pre .1 .3) (l .i) (l .scratch) _
+    (omega arith) (l .inv .3) (c .before .before .before .rows .ensures) (r .result) _ (r .ensures)
+    (toZ-ofZ w64 (r .result) (record { sfits = r .ok })) in (
+      range-fails (a .words .now) (a .j) (map (rowOf (a .cells .now) (a .scratch .now) (a .b)) is) (l .i) (a .count)
+          (ap inRange (sym e) ∙ sym (c .before .in-range .ensures) ∙ not-true _ (c .if1 .taken)) (omega arith),
+      λ q. absurd (false≢true q),
+    )
 
 wide-requires : tie.Need-wide-requires Inv-loop μ-loop
 wide-requires c κs = search needs
@@ -93,16 +101,20 @@ loop-less c = search needs
 
 loop-again : tie.Need-loop-again Inv-loop μ-loop
 loop-again c =
-    let d = c .before .before .before .before .before .before .before .before .before .before in
-    let a = d .args in
-    let l = c .before .before .before .before .before .before .before .loop in
+    let after-rows = c .before .before .before .before in
+    let start = after-rows .before .before .before .before .before .before in
+    let a = start .args in
+    let l = after-rows .before .before .before .loop in
     let r = c .before .before .before .aggregate-cell in
     let is = take (a .n) (a .found .now) in
     let rs = map (rowOf (a .cells .now) (a .scratch .now) (a .b)) is in
-    let e = turn-entry (a .words .now) (a .j) (a .cells .now) (a .scratch .now) (a .b) (a .to) is (d .pre .1 .2) (d .pre .1 .3) (l .i) (l .scratch) _ (omega arith) (l .inv .3) (c .before .before .before .before .rows .ensures) (r .result) _ (r .ensures) (toZ-ofZ w64 (r .result) (record { sfits = r .ok })) in (
+    let e =
+    turn-entry (a .words .now) (a .j) (a .cells .now) (a .scratch .now) (a .b) (a .to) is (start .pre .1 .2) (start .pre .1 .3) (l .i) (l .scratch) _
+    (omega arith) (l .inv .3) (after-rows .rows .ensures) (r .result) _ (r .ensures) (toZ-ofZ w64 (r .result) (record { sfits = r .ok })) in (
       omega arith,
       simp length-set (l .inv .1),
-      range-more (a .words .now) (a .j) rs (l .i) (l .inv .2) (ap inRange (sym e) ∙ sym (c .before .before .in-range .ensures) ∙ not-false _ (c .before .if1 .left)),
+      range-more (a .words .now) (a .j) rs (l .i) (l .inv .2)
+          (ap inRange (sym e) ∙ sym (c .before .before .in-range .ensures) ∙ not-false _ (c .before .if1 .left)),
       rw (c .wide .ensures) (row-written (a .words .now) (a .j) rs (a .scratch .now) (l .scratch) (a .to) (l .i) _ (omega arith) (l .inv .3) e),
     )
 

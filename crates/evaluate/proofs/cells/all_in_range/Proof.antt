@@ -33,8 +33,10 @@ in-range-requires c κs = search needs
 
 returns : tie.Need-returns Inv-loop μ-loop
 returns c =
-    let l = c .before .before .before .before .loop in
-    one-fails (λ z. inRange (value z)) (c .before .before .before .before .before .args .cells .now) (l .i) _ (toZ-ofZ w64 _ (record { sfits = c .before .before .in-range-arg .given })) (c .before .in-range .ensures) (c .if1 .taken) (omega arith)
+    let turn = c .before .before .before .before in
+    let l = turn .loop in
+    one-fails (λ z. inRange (value z)) (turn .before .args .cells .now) (l .i) _
+    (toZ-ofZ w64 _ (record { sfits = c .before .before .in-range-arg .given })) (c .before .in-range .ensures) (c .if1 .taken) (omega arith)
 
 add-i : tie.Need-add-i Inv-loop μ-loop
 add-i c = search needs
@@ -44,8 +46,13 @@ loop-less c = search needs
 
 loop-again : tie.Need-loop-again Inv-loop μ-loop
 loop-again c =
-    let l = c .before .before .before .before .loop in
-    (omega arith, one-passes (λ z. inRange (value z)) (c .before .before .before .before .before .args .cells .now) (l .i) _ (toZ-ofZ w64 _ (record { sfits = c .before .before .in-range-arg .given })) (c .before .in-range .ensures) (c .if1 .left) (omega arith) (l .inv .1))
+    let turn = c .before .before .before .before in
+    let l = turn .loop in (
+      omega arith,
+      one-passes (λ z. inRange (value z)) (turn .before .args .cells .now) (l .i) _
+          (toZ-ofZ w64 _ (record { sfits = c .before .before .in-range-arg .given })) (c .before .in-range .ensures) (c .if1 .left) (omega arith)
+          (l .inv .1),
+    )
 
 returns-2 : tie.Need-returns-2 Inv-loop μ-loop
 returns-2 c =

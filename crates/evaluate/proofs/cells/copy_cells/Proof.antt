@@ -46,8 +46,12 @@ loop-less c = search needs
 loop-again : tie.Need-loop-again Inv-loop μ-loop
 loop-again c =
     let a = c .before .before .before .args in
-    let l = c .before .before .loop in
-    (omega arith, simp length-set (l .inv .1), copied-more (a .from .now) (a .at) (a .s .now) (a .to) (l .i) (l .s) (omega arith) (omega arith) (l .inv .2) _ (toZ-ofZ w64 _ (record { sfits = c .s .given })))
+    let l = c .before .before .loop in (
+      omega arith,
+      simp length-set (l .inv .1),
+      copied-more (a .from .now) (a .at) (a .s .now) (a .to) (l .i) (l .s) (omega arith) (omega arith)
+          (l .inv .2) _ (toZ-ofZ w64 _ (record { sfits = c .s .given })),
+    )
 
 same-length : tie.Need-same-length Inv-loop μ-loop
 same-length c = c .before .loop .inv .1

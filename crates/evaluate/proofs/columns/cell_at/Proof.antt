@@ -12,7 +12,9 @@ shared-slice-copy-out-result : tie.Need-shared-slice-copy-out-result
 shared-slice-copy-out-result c = search needs
 
 returns : tie.Need-returns
-returns c = cell-here (c .before .before .args .row .now) (c .before .before .args .p) (toZ-ofZ w64 _ (record { sfits = c .result .given })) (c .before .if1 .taken)
+returns c =
+    let start = c .before .before in
+    cell-here (start .args .row .now) (start .args .p) (toZ-ofZ w64 _ (record { sfits = c .result .given })) (c .before .if1 .taken)
 
 returns-2 : tie.Need-returns-2
 returns-2 c = cell-none (c .before .args .row .now) (c .before .args .p) (c .if1 .left)

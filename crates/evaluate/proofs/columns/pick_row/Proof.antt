@@ -16,7 +16,9 @@ use Rattle.evaluate.proofs.columns.pick_row.Statement.{statement}
 use Rattle.evaluate.proofs.columns.pick_row.Tie as tie
 
 abbrev Inv-loop : tie.InvT-loop
-Inv-loop cells b i positions count to scratch₀ k₀ scratch k = (k ≤ count) × (length scratch ≡ length scratch₀) × (scratch ≡ written scratch₀ to (map cell (picked (take k positions) (rowOf cells scratch₀ b i))))
+Inv-loop cells b i positions count to scratch₀ k₀ scratch k =
+    (k ≤ count) × (length scratch ≡ length scratch₀) ×
+    (scratch ≡ written scratch₀ to (map cell (picked (take k positions) (rowOf cells scratch₀ b i))))
 
 abbrev μ-loop : tie.MeasureT-loop
 μ-loop cells b i positions count to scratch₀ k₀ scratch k = count - k
@@ -59,14 +61,20 @@ loop-less c = search needs
 
 loop-again : tie.Need-loop-again Inv-loop μ-loop
 loop-again c =
-    let a = c .before .before .before .before .before .before .before .before .args in
-    let p = c .before .before .before .before .before .before .before .before .pre in
-    let l = c .before .before .before .before .before .before .loop in
-    let size : length (map cell (picked (take (l .k) (a .positions .now)) (rowOf (a .cells .now) (a .scratch .now) (a .b) (a .i)))) ≡ l .k = columns-size (a .positions .now) (rowOf (a .cells .now) (a .scratch .now) (a .b) (a .i)) (l .k) (omega arith) in
+    let turn = c .before .before .before .before .before .before in
+    let start = turn .before .before in
+    let a = start .args in
+    let p = start .pre in
+    let l = turn .loop in
+    let size : length (map cell (picked (take (l .k) (a .positions .now)) (rowOf (a .cells .now) (a .scratch .now) (a .b) (a .i)))) ≡ l .k =
+    columns-size (a .positions .now) (rowOf (a .cells .now) (a .scratch .now) (a .b) (a .i)) (l .k) (omega arith) in
     let row = row-kept (a .cells .now) (a .scratch .now) (a .b) (a .to) (p .0) _ (l .inv .2) (a .i) (p .1) (omega arith) in (
       omega arith,
       simp length-set (l .inv .1),
-      column-more (a .scratch .now) (a .to) (a .positions .now) (rowOf (a .cells .now) (a .scratch .now) (a .b) (a .i)) (l .k) (l .inv .2) (toZ-ofZ w64 _ (record { sfits = c .cell-at .ok })) (column-read _ _ _ (c .cell-at .ensures) (c .before .before .before .row .ensures) row (c .before .wide .ensures)) (omega arith) (omega arith),
+      column-more (a .scratch .now) (a .to) (a .positions .now) (rowOf (a .cells .now) (a .scratch .now) (a .b) (a .i)) (l .k) (l .inv .2)
+          (toZ-ofZ w64 _ (record { sfits = c .cell-at .ok }))
+          (column-read _ _ _ (c .cell-at .ensures) (c .before .before .before .row .ensures) row (c .before .wide .ensures)) (omega arith)
+          (omega arith),
     )
 
 same-length : tie.Need-same-length Inv-loop μ-loop
@@ -76,7 +84,8 @@ returns : tie.Need-returns Inv-loop μ-loop
 returns c =
     let a = c .before .before .before .args in
     let l = c .before .loop in
-    column-end (a .scratch .now) (a .to) (a .positions .now) (rowOf (a .cells .now) (a .scratch .now) (a .b) (a .i)) (l .k) (a .count) (l .inv .2) (l .inv .0) (c .loop-test .left)
+    column-end (a .scratch .now) (a .to) (a .positions .now) (rowOf (a .cells .now) (a .scratch .now) (a .b) (a .i)) (l .k) (a .count) (l .inv .2)
+    (l .inv .0) (c .loop-test .left)
 
 pub pick-row-spec : {M : Type 1} → statement M
 pick-row-spec =

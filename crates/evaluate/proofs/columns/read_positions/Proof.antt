@@ -11,7 +11,8 @@ use Rattle.evaluate.proofs.columns.read_positions.Statement.{statement}
 use Rattle.evaluate.proofs.columns.read_positions.Tie as tie
 
 abbrev Inv-loop : tie.InvT-loop
-Inv-loop words j count positions₀ i₀ positions i = (i ≤ count) × (length positions ≡ length positions₀) × (take i positions ≡ map positionOf (itemsFrom words j i))
+Inv-loop words j count positions₀ i₀ positions i =
+    (i ≤ count) × (length positions ≡ length positions₀) × (take i positions ≡ map positionOf (itemsFrom words j i))
 
 abbrev μ-loop : tie.MeasureT-loop
 μ-loop words j count positions₀ i₀ positions i = count - i
@@ -42,10 +43,11 @@ loop-less c = search needs
 
 loop-again : tie.Need-loop-again Inv-loop μ-loop
 loop-again c =
+    let start = c .before .before .before .before .before .before in
     let l = c .before .before .before .loop in (
       omega arith,
       simp length-set (l .inv .1),
-      positions-more (l .positions) _ (c .before .before .before .before .before .before .args .j) (l .i) (l .inv .2) (c .before .position .ensures) (c .wide .ensures) (omega arith),
+      positions-more (l .positions) _ (start .args .j) (l .i) (l .inv .2) (c .before .position .ensures) (c .wide .ensures) (omega arith),
     )
 
 same-length : tie.Need-same-length Inv-loop μ-loop
@@ -53,8 +55,10 @@ same-length c = search needs
 
 returns : tie.Need-returns Inv-loop μ-loop
 returns c =
-    let a = c .before .before .before .before .args in
-    positions-end (c .before .loop .positions) (a .words .now) (a .j) (c .before .loop .i) (a .count) (c .before .loop .inv .2) (omega arith) (omega arith)
+    let start = c .before .before .before .before in
+    let a = start .args in
+    positions-end (c .before .loop .positions) (a .words .now) (a .j) (c .before .loop .i) (a .count) (c .before .loop .inv .2) (omega arith)
+    (omega arith)
 
 pub read-positions-spec : {M : Type 1} → statement M
 read-positions-spec =

@@ -10,7 +10,8 @@ use Rattle.evaluate.proofs.columns.same_key.Statement.{statement}
 use Rattle.evaluate.proofs.columns.same_key.Tie as tie
 
 abbrev Inv-loop : tie.InvT-loop
-Inv-loop rows width positions count k i a b at₀ at = (at ≤ count) × (leftSame positions count (map value a) (map value b) 0 ≡ leftSame positions count (map value a) (map value b) at)
+Inv-loop rows width positions count k i a b at₀ at =
+    (at ≤ count) × (leftSame positions count (map value a) (map value b) 0 ≡ leftSame positions count (map value a) (map value b) at)
 
 abbrev μ-loop : tie.MeasureT-loop
 μ-loop rows width positions count k i a b at₀ at = count - at
@@ -77,11 +78,15 @@ cell-at-requires-2 c κs = search needs
 
 returns : tie.Need-returns Inv-loop μ-loop
 returns c =
-    let a = c .before .before .before .before .before .before .before .before .before .before .args in
+    let tested = c .before .before .before .before .before in
+    let start = tested .before .before .before .before .before in
+    let a = start .args in
     let first = map value (take (a .k * a .width + a .width - a .k * a .width) (drop (a .k * a .width) (a .rows .now))) in
     let second = map value (take (a .i * a .width + a .width - a .i * a .width) (drop (a .i * a .width) (a .rows .now))) in
-    let l = c .before .before .before .before .before .before .loop in
-    part-width (a .positions .now) (a .count) (a .rows .now) (a .k) (a .i) (a .width) _ (key-stop (a .positions .now) (a .count) first second (l .at) (c .before .before .before .before .before .before .before .before .before .before .pre .0) _ _ (c .before .before .before .wide .ensures) (c .before .before .cell-at .ensures) (c .before .cell-at2 .ensures) (c .if1 .taken) (c .before .before .before .before .before .loop-test .taken) ∙ sym (l .inv .1))
+    let l = tested .before .loop in
+    part-width (a .positions .now) (a .count) (a .rows .now) (a .k) (a .i) (a .width) _ (key-stop (a .positions .now) (a .count) first second (l .at)
+    (start .pre .0) _ _ (c .before .before .before .wide .ensures) (c .before .before .cell-at .ensures) (c .before .cell-at2 .ensures)
+    (c .if1 .taken) (tested .loop-test .taken) ∙ sym (l .inv .1))
 
 add-at : tie.Need-add-at Inv-loop μ-loop
 add-at c = search needs
@@ -91,21 +96,28 @@ loop-less c = search needs
 
 loop-again : tie.Need-loop-again Inv-loop μ-loop
 loop-again c =
-    let a = c .before .before .before .before .before .before .before .before .before .before .args in
+    let after-cell-at = c .before .before in
+    let turn = after-cell-at .before .before .before .before in
+    let start = turn .before .before .before .before in
+    let a = start .args in
     let first = map value (take (a .k * a .width + a .width - a .k * a .width) (drop (a .k * a .width) (a .rows .now))) in
     let second = map value (take (a .i * a .width + a .width - a .i * a .width) (drop (a .i * a .width) (a .rows .now))) in
-    let l = c .before .before .before .before .before .before .loop in (
+    let l = turn .loop in (
       omega arith,
-      l .inv .1 ∙ key-next (a .positions .now) (a .count) first second (l .at) (c .before .before .before .before .before .before .before .before .before .before .pre .0) _ _ (c .before .before .before .wide .ensures) (c .before .before .cell-at .ensures) (c .before .cell-at2 .ensures) (c .before .before .cell-at .ok) (c .before .cell-at2 .ok) (c .if1 .left) (c .before .before .before .before .before .loop-test .taken),
+      l .inv .1 ∙ key-next (a .positions .now) (a .count) first second (l .at) (start .pre .0) _ _ (after-cell-at .before .wide .ensures)
+          (after-cell-at .cell-at .ensures) (c .before .cell-at2 .ensures) (after-cell-at .cell-at .ok) (c .before .cell-at2 .ok) (c .if1 .left)
+          (after-cell-at .before .before .before .loop-test .taken),
     )
 
 returns-2 : tie.Need-returns-2 Inv-loop μ-loop
 returns-2 c =
-    let a = c .before .before .before .before .before .args in
+    let start = c .before .before .before .before .before in
+    let a = start .args in
     let first = map value (take (a .k * a .width + a .width - a .k * a .width) (drop (a .k * a .width) (a .rows .now))) in
     let second = map value (take (a .i * a .width + a .width - a .i * a .width) (drop (a .i * a .width) (a .rows .now))) in
     let l = c .before .loop in
-    part-width (a .positions .now) (a .count) (a .rows .now) (a .k) (a .i) (a .width) _ (key-end (a .positions .now) (a .count) first second (l .at) (c .before .before .before .before .before .pre .0) (c .loop-test .left) ∙ sym (l .inv .1))
+    part-width (a .positions .now) (a .count) (a .rows .now) (a .k) (a .i) (a .width) _
+    (key-end (a .positions .now) (a .count) first second (l .at) (start .pre .0) (c .loop-test .left) ∙ sym (l .inv .1))
 
 pub same-key-spec : {M : Type 1} → statement M
 same-key-spec =

@@ -8,7 +8,8 @@ use Rattle.evaluate.proofs.columns.split.Statement.{statement}
 use Rattle.evaluate.proofs.columns.split.Tie as tie
 
 abbrev Inv-loop : tie.InvT-loop
-Inv-loop rows width positions count k rest₀ n found₀ members₀ others₀ i₀ rest found members others i = Parted (sameKey rows width (take count positions) k) rest₀ found₀ n rest found members others i
+Inv-loop rows width positions count k rest₀ n found₀ members₀ others₀ i₀ rest found members others i =
+    Parted (sameKey rows width (take count positions) k) rest₀ found₀ n rest found members others i
 
 abbrev μ-loop : tie.MeasureT-loop
 μ-loop rows width positions count k rest₀ n found₀ members₀ others₀ i₀ rest found members others i = n - i
@@ -27,9 +28,17 @@ index-requires c κs = search needs
 
 same-key-requires : tie.Need-same-key-requires Inv-loop μ-loop
 same-key-requires c κs =
-    let p = c .before .before .before .before .before .before .before .pre in
-    let l = c .before .before .before .loop in
-    (search needs, search needs, number-has _ _ _ _ (l .inv) (c .before .before .loop-test .taken) (p .1 .0) (p .1 .2) (c .index .ensures), search needs, search needs, number-has _ _ _ _ (l .inv) (c .before .before .loop-test .taken) (p .1 .0) (p .1 .3) (c .index .ensures))
+    let tested = c .before .before in
+    let start = tested .before .before .before .before .before in
+    let p = start .pre in
+    let l = tested .before .loop in (
+      search needs,
+      search needs,
+      number-has _ _ _ _ (l .inv) (tested .loop-test .taken) (p .1 .0) (p .1 .2) (c .index .ensures),
+      search needs,
+      search needs,
+      number-has _ _ _ _ (l .inv) (tested .loop-test .taken) (p .1 .0) (p .1 .3) (c .index .ensures),
+    )
 
 mul-found : tie.Need-mul-found Inv-loop μ-loop
 mul-found c = search needs
@@ -57,9 +66,11 @@ loop-less c = search needs
 
 loop-again : tie.Need-loop-again Inv-loop μ-loop
 loop-again c =
-    let p = c .before .before .before .before .before .before .before .before .before .pre in
-    let l = c .before .before .before .before .before .loop in
-    parted-next _ _ _ _ (l .inv) (c .before .before .before .before .loop-test .taken) (p .1 .0) (p .1 .1) (c .before .before .index .ensures) (c .before .same-key .ensures)
+    let tested = c .before .before .before .before in
+    let start = tested .before .before .before .before .before in
+    let p = start .pre in
+    let l = tested .before .loop in
+    parted-next _ _ _ _ (l .inv) (tested .loop-test .taken) (p .1 .0) (p .1 .1) (c .before .before .index .ensures) (c .before .same-key .ensures)
     (⊎-elim (λ x. inl (x .0 .taken, x .1, x .2, x .3, x .4)) (λ x. inr (x .0 .left, x .1, x .2, x .3, x .4)) (c .if1 .came))
 
 same-length : tie.Need-same-length Inv-loop μ-loop

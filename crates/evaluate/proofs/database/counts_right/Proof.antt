@@ -39,8 +39,10 @@ loop-less c = search needs
 
 loop-again : tie.Need-loop-again Inv-loop μ-loop
 loop-again c =
-    let t = c .before .before .before in
-    (omega arith, front-more (λ k. leb k 4096) (t .before .args .counts .now) (t .loop .i) 0 (t .loop .inv .1) (omega arith) (le-leb _ _ (c .if1 .left)))
+    let turn = c .before .before .before in (
+      omega arith,
+      front-more (λ k. leb k 4096) (turn .before .args .counts .now) (turn .loop .i) 0 (turn .loop .inv .1) (omega arith) (le-leb _ _ (c .if1 .left)),
+    )
 
 returns-2 : tie.Need-returns-2 Inv-loop μ-loop
 returns-2 c =

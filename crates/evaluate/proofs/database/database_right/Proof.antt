@@ -26,7 +26,8 @@ tables-requires-2 c κs = search needs
 
 table-start-requires : tie.Need-table-start-requires
 table-start-requires c κs =
-    (c .before .before .before .before .before .before .before .before .pre, omega arith, omega arith, sym (c .before .before .counts-right .ensures) ∙ not-false _ (c .before .if2 .left))
+    let start = c .before .before .before .before .before .before .before .before in
+    (start .pre, omega arith, omega arith, sym (c .before .before .counts-right .ensures) ∙ not-false _ (c .before .if2 .left))
 
 returns-3 : tie.Need-returns-3
 returns-3 c = cells-wrong _ _ _ (c .before .before .tables2 .ensures) (c .before .table-start .ensures .0) (c .if3 .taken)
@@ -36,9 +37,11 @@ all-in-range-requires c κs = search needs
 
 returns-4 : tie.Need-returns-4
 returns-4 c =
-    let t = c .before .before .before in
-    let u = t .before .before .before in
-    cells-decide _ _ _ (u .before .before .tables .ensures) (u .before .wide .ensures) (u .if1 .left) (t .before .before .counts-right .ensures) (t .before .if2 .left) (t .tables2 .ensures) (c .before .before .table-start .ensures .0) (c .before .if3 .left) (c .all-in-range .ensures)
+    let after-if2 = c .before .before .before .before in
+    let after-tables = after-if2 .before .before .before .before in
+    cells-decide _ _ _ (after-tables .tables .ensures) (after-if2 .before .before .before .wide .ensures) (after-if2 .before .before .if1 .left)
+    (after-if2 .before .counts-right .ensures) (after-if2 .if2 .left) (c .before .before .before .tables2 .ensures)
+    (c .before .before .table-start .ensures .0) (c .before .if3 .left) (c .all-in-range .ensures)
 
 pub database-right-spec : {M : Type 1} → statement M
 database-right-spec =

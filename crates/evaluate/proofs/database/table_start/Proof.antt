@@ -37,15 +37,25 @@ wide-requires-3 c κs = search needs
 
 mul-at : tie.Need-mul-at Inv-loop μ-loop
 mul-at c =
-    let t = c .before .before .before .before .before .before in
-    let s = t .before .before .before in
-    omega (arith, table-small _ (s .args .counts .now) (t .loop .i) (c .before .before .before .before .wide .ensures) (c .before .before .wide2 .ensures) (c .before .table-width .ensures) (c .wide3 .ensures) (s .pre .3) (s .pre .0) (omega arith))
+    let after-wide = c .before .before .before .before in
+    let start = after-wide .before .before .before .before .before in
+    omega (
+      arith,
+      table-small _ (start .args .counts .now) (after-wide .before .before .loop .i) (after-wide .wide .ensures)
+          (c .before .before .wide2 .ensures) (c .before .table-width .ensures) (c .wide3 .ensures) (start .pre .3) (start .pre .0) (omega arith),
+    )
 
 add-at : tie.Need-add-at Inv-loop μ-loop
 add-at c =
-    let t = c .before .before .before .before .before .before in
-    let s = t .before .before .before in
-    omega (arith, limited _ (s .pre .0) .tables-few, table-small _ (s .args .counts .now) (t .loop .i) (c .before .before .before .before .wide .ensures) (c .before .before .wide2 .ensures) (c .before .table-width .ensures) (c .wide3 .ensures) (s .pre .3) (s .pre .0) (omega arith))
+    let after-wide = c .before .before .before .before in
+    let start = after-wide .before .before .before .before .before in
+    omega (
+      arith,
+      limited _ (start .pre .0) .tables-few,
+      table-small _ (start .args .counts .now) (after-wide .before .before .loop .i)
+          (after-wide .wide .ensures) (c .before .before .wide2 .ensures) (c .before .table-width .ensures) (c .wide3 .ensures) (start .pre .3)
+          (start .pre .0) (omega arith),
+    )
 
 add-i : tie.Need-add-i Inv-loop μ-loop
 add-i c = search needs
@@ -55,9 +65,19 @@ loop-less c = search needs
 
 loop-again : tie.Need-loop-again Inv-loop μ-loop
 loop-again c =
-    let t = c .before .before .before .before .before .before in
-    let s = t .before .before .before in
-    (omega arith, start-more _ _ (t .loop .i) (c .before .before .before .before .wide .ensures) (c .before .before .wide2 .ensures) (c .before .table-width .ensures) (c .wide3 .ensures) (t .loop .inv .1), omega (arith, table-small _ (s .args .counts .now) (t .loop .i) (c .before .before .before .before .wide .ensures) (c .before .before .wide2 .ensures) (c .before .table-width .ensures) (c .wide3 .ensures) (s .pre .3) (s .pre .0) (omega arith)))
+    let after-wide2 = c .before .before in
+    let after-wide = after-wide2 .before .before in
+    let turn = after-wide .before .before in
+    let start = turn .before .before .before in (
+      omega arith,
+      start-more _ _ (turn .loop .i) (after-wide .wide .ensures) (after-wide2 .wide2 .ensures) (c .before .table-width .ensures)
+          (c .wide3 .ensures) (turn .loop .inv .1),
+      omega (
+        arith,
+        table-small _ (start .args .counts .now) (turn .loop .i) (after-wide .wide .ensures)
+            (after-wide2 .wide2 .ensures) (c .before .table-width .ensures) (c .wide3 .ensures) (start .pre .3) (start .pre .0) (omega arith),
+      ),
+    )
 
 returns : tie.Need-returns Inv-loop μ-loop
 returns c =

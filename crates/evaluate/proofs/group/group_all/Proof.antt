@@ -10,10 +10,14 @@ choose-all-requires c κs = search needs
 
 write-aggregates-requires : tie.Need-write-aggregates-requires
 write-aggregates-requires c κs =
-    let a = c .before .before .before .before .before .before .before .before .args in
-    let p = c .before .before .before .before .before .before .before .before .pre in
-    let below = all-below (a .b .count) (c .before .before .before .before .choose-all .ensures) in
-    ((search needs, search needs, search needs), (search needs, search needs, below, search needs, search needs, search needs, chosen-ranged (a .cells .now) (a .scratch .now) (a .b) (p .1 .3) below))
+    let after-choose-all = c .before .before .before .before in
+    let start = after-choose-all .before .before .before .before in
+    let a = start .args in
+    let p = start .pre in
+    let below = all-below (a .b .count) (after-choose-all .choose-all .ensures) in (
+      (search needs, search needs, search needs),
+      (search needs, search needs, below, search needs, search needs, search needs, chosen-ranged (a .cells .now) (a .scratch .now) (a .b) (p .1 .3) below),
+    )
 
 same-length : tie.Need-same-length
 same-length c = search needs
@@ -23,8 +27,12 @@ same-length-2 c = search needs
 
 returns : tie.Need-returns
 returns c =
-    let a = c .before .before .before .before .before .before .before .before .before .before .before .args in
-    one-fails (a .limit) (a .to) (a .scratch .now) _ (aggregatesFrom (a .words .now) (a .j) (a .count)) _ _ (all-rows (a .cells .now) (a .scratch .now) (a .b) (c .before .before .before .before .before .before .before .choose-all .ensures)) (c .before .before .before .before .before .before .before .before .before .before .before .pre .0 .3) (c .before .before .write-aggregates .ensures .0) (c .if1 .taken)
+    let after-choose-all = c .before .before .before .before .before .before .before in
+    let start = after-choose-all .before .before .before .before in
+    let a = start .args in
+    one-fails (a .limit) (a .to) (a .scratch .now) _ (aggregatesFrom (a .words .now) (a .j) (a .count)) _ _
+    (all-rows (a .cells .now) (a .scratch .now) (a .b) (after-choose-all .choose-all .ensures)) (start .pre .0 .3)
+    (c .before .before .write-aggregates .ensures .0) (c .if1 .taken)
 
 same-length-3 : tie.Need-same-length-3
 same-length-3 c = search needs
@@ -34,8 +42,13 @@ same-length-4 c = search needs
 
 returns-2 : tie.Need-returns-2
 returns-2 c =
-    let a = c .before .before .before .before .before .before .before .before .before .before .before .args in
-    one-makes (a .limit) (a .to) (a .scratch .now) _ (aggregatesFrom (a .words .now) (a .j) (a .count)) _ _ (all-rows (a .cells .now) (a .scratch .now) (a .b) (c .before .before .before .before .before .before .before .choose-all .ensures)) (c .before .before .before .before .before .before .before .before .before .before .before .pre .0 .3) (c .before .before .write-aggregates .ensures .0) (c .if1 .left) (c .before .before .write-aggregates .ensures .1)
+    let after-write-aggregates = c .before .before in
+    let after-choose-all = after-write-aggregates .before .before .before .before .before in
+    let start = after-choose-all .before .before .before .before in
+    let a = start .args in
+    one-makes (a .limit) (a .to) (a .scratch .now) _ (aggregatesFrom (a .words .now) (a .j) (a .count)) _ _
+    (all-rows (a .cells .now) (a .scratch .now) (a .b) (after-choose-all .choose-all .ensures)) (start .pre .0 .3)
+    (after-write-aggregates .write-aggregates .ensures .0) (c .if1 .left) (after-write-aggregates .write-aggregates .ensures .1)
 
 pub group-all-spec : {M : Type 1} → statement M
 group-all-spec =

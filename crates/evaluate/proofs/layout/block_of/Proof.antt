@@ -47,10 +47,11 @@ wide-requires-5 c κs = search needs
 
 returns : tie.Need-returns
 returns c =
-    let u = c .before .before .before in
-    let v = u .before .before .before .before in
-    let s = v .before .before .before .before .before in
-    block-read _ _ (s .args .sizes .now) (s .pre .0) _ (s .pre .2) (v .operator .ensures) (v .before .wide .ensures) (u .before .before .wide2 .ensures) (u .wide3 .ensures) (c .before .before .wide4 .ensures) (c .wide5 .ensures)
+    let after-wide2 = c .before .before .before .before .before in
+    let start = after-wide2 .before .before .before .before .before .before .before in
+    block-read _ _ (start .args .sizes .now) (start .pre .0) _ (start .pre .2) (after-wide2 .before .before .operator .ensures)
+    (after-wide2 .before .before .before .wide .ensures) (after-wide2 .wide2 .ensures) (c .before .before .before .wide3 .ensures)
+    (c .before .before .wide4 .ensures) (c .wide5 .ensures)
 
 pub block-of-spec : {M : Type 1} → statement M
 block-of-spec =

@@ -14,15 +14,23 @@ left-requires c κs = search needs
 
 table-start-requires : tie.Need-table-start-requires
 table-start-requires c κs =
-    let p = c .before .before .before .before .before .pre in
-    (p .0 .formed .sized, omega (arith, facts-at _ (p .0 .formed) _ (p .1) .left-table (sym (c .before .before .operator .ensures) ∙ c .before .if1 .taken)), p .2, p .3)
+    let start = c .before .before .before .before .before in
+    let p = start .pre in (
+      p .0 .formed .sized,
+      omega (arith, facts-at _ (p .0 .formed) _ (p .1) .left-table (sym (c .before .before .operator .ensures) ∙ c .before .if1 .taken)),
+      p .2,
+      p .3,
+    )
 
 cast-result : tie.Need-cast-result
 cast-result c = search needs
 
 returns : tie.Need-returns
-returns c =
-    (λ q. rw (c .before .left .ensures) at (c .table-start .ensures .0), λ q. absurd (q (sym (c .before .before .before .operator .ensures) ∙ c .before .before .if1 .taken)))
+returns c = (
+  λ q. rw (c .before .left .ensures) at (c .table-start .ensures .0),
+  λ q. absurd
+      (q (sym (c .before .before .before .operator .ensures) ∙ c .before .before .if1 .taken)),
+)
 
 mul-result : tie.Need-mul-result
 mul-result c =

@@ -35,18 +35,24 @@ loop-less c = search needs
 
 loop-again : tie.Need-loop-again Inv-loop μ-loop
 loop-again c =
-    let t = c .before .before .before .before in
-    let s = t .before .before .before in
-    (omega arith, widest-wider _ (s .args .widths .now) (s .pre .0) (t .loop .n) (t .loop .inv .1) (omega arith) (omega arith) (c .before .before .wide .ensures) (c .if1 .taken))
+    let turn = c .before .before .before .before in
+    let start = turn .before .before .before in (
+      omega arith,
+      widest-wider _ (start .args .widths .now) (start .pre .0) (turn .loop .n) (turn .loop .inv .1) (omega arith) (omega arith)
+          (c .before .before .wide .ensures) (c .if1 .taken),
+    )
 
 loop-less-2 : tie.Need-loop-less-2 Inv-loop μ-loop
 loop-less-2 c = search needs
 
 loop-again-2 : tie.Need-loop-again-2 Inv-loop μ-loop
 loop-again-2 c =
-    let t = c .before .before .before .before in
-    let s = t .before .before .before in
-    (omega arith, widest-same _ (s .args .widths .now) (s .pre .0) (t .loop .n) (t .loop .inv .1) (omega arith) (omega arith) (c .before .before .wide .ensures) (c .if1 .left))
+    let turn = c .before .before .before .before in
+    let start = turn .before .before .before in (
+      omega arith,
+      widest-same _ (start .args .widths .now) (start .pre .0) (turn .loop .n) (turn .loop .inv .1) (omega arith) (omega arith)
+          (c .before .before .wide .ensures) (c .if1 .left),
+    )
 
 returns : tie.Need-returns Inv-loop μ-loop
 returns c = widest-whole _ (c .before .loop .inv .1) (c .loop-test .left)

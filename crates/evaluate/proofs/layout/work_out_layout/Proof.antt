@@ -59,7 +59,8 @@ mul-layout-3 c = search needs
 
 element-copy-out-layout-2 : tie.Need-element-copy-out-layout-2 Inv-loop μ-loop
 element-copy-out-layout-2 c =
-    omega (arith, limited _ (c .before .before .before .before .before .before .before .before .before .before .before .pre .0 .formed .sized) .nodes-few)
+    let start = c .before .before .before .before .before .before .before .before .before .before .before in
+    omega (arith, limited _ (start .pre .0 .formed .sized) .nodes-few)
 
 add-layout : tie.Need-add-layout Inv-loop μ-loop
 add-layout c = search needs
@@ -69,12 +70,14 @@ mul-layout-4 c = search needs
 
 slice-write-layout-2 : tie.Need-slice-write-layout-2 Inv-loop μ-loop
 slice-write-layout-2 c =
-    simp length-set (omega (arith, limited _ (c .before .before .before .before .before .before .before .before .before .before .before .before .pre .0 .formed .sized) .nodes-few))
+    let start = c .before .before .before .before .before .before .before .before .before .before .before .before in
+    simp length-set (omega (arith, limited _ (start .pre .0 .formed .sized) .nodes-few))
 
 start-requires : tie.Need-start-requires Inv-loop μ-loop
 start-requires c κs =
-    let s = c .before .before .before .before .before .before .before .before .before .before .before .before in
-    (s .pre .0, omega arith, s .pre .1, s .pre .2, area-small _ (s .pre .0) (s .pre .3) (c .before .before .before .before .before .before .before .before .widest-row .ensures))
+    let after-widest-row = c .before .before .before .before .before .before .before .before in
+    let start = after-widest-row .before .before .before .before in
+    (start .pre .0, omega arith, start .pre .1, start .pre .2, area-small _ (start .pre .0) (start .pre .3) (after-widest-row .widest-row .ensures))
 
 add-layout-2 : tie.Need-add-layout-2 Inv-loop μ-loop
 add-layout-2 c = search needs
@@ -84,7 +87,8 @@ mul-layout-5 c = search needs
 
 slice-write-layout-3 : tie.Need-slice-write-layout-3 Inv-loop μ-loop
 slice-write-layout-3 c =
-    simp length-set (omega (arith, limited _ (c .before .before .before .before .before .before .before .before .before .before .before .before .before .pre .0 .formed .sized) .nodes-few))
+    let start = c .before .before .before .before .before .before .before .before .before .before .before .before .before in
+    simp length-set (omega (arith, limited _ (start .pre .0 .formed .sized) .nodes-few))
 
 add-n : tie.Need-add-n Inv-loop μ-loop
 add-n c = search needs
@@ -94,9 +98,17 @@ loop-less c = search needs
 
 loop-again : tie.Need-loop-again Inv-loop μ-loop
 loop-again c =
-    let t = c .before .before .before .before .before .before .before in
-    let s = t .before .before .before .before .before .before in
-    (omega arith, filled-more _ _ (t .loop .inv .1) (omega (arith, limited _ (s .pre .0 .formed .sized) .nodes-few)) (c .before .before .before .before .before .wide .ensures) (read-at (s .args .widths .now) (c .before .before .before .before .wide2 .ensures) (s .pre .4 (t .loop .n) (omega arith))) (read-at (s .args .reaches .now) (c .before .before .wide3 .ensures) (s .pre .5 (t .loop .n) (omega arith))) (c .start .ensures .0) (c .start .ensures .1))
+    let after-wide2 = c .before .before .before .before in
+    let turn = after-wide2 .before .before .before in
+    let start = turn .before .before .before .before .before .before in (
+      omega arith,
+      filled-more _ _ (turn .loop .inv .1) (omega (arith, limited _ (start .pre .0 .formed .sized) .nodes-few))
+          (after-wide2 .before .wide .ensures)
+          (read-at (start .args .widths .now) (after-wide2 .wide2 .ensures) (start .pre .4 (turn .loop .n) (omega arith)))
+          (read-at (start .args .reaches .now) (c .before .before .wide3 .ensures) (start .pre .5 (turn .loop .n) (omega arith)))
+          (c .start .ensures .0)
+          (c .start .ensures .1),
+    )
 
 same-length : tie.Need-same-length Inv-loop μ-loop
 same-length c =

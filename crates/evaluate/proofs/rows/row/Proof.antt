@@ -10,15 +10,29 @@ mul-from c = record { fits = row-small _ _ (omega arith) (omega arith) }
 
 add-from : tie.Need-add-from
 add-from c =
-    let a = c .before .before .args in
-    let p = c .before .before .pre in
-    record { fits = omega (arith, row-end (a .b .from) (a .i) (a .b .count) (a .b .width) (p .1), lists-small (a .b .table) (a .cells .now) (a .scratch .now) _ (2 ^ 63) (p .0) (omega arith) (omega arith)) }
+    let start = c .before .before in
+    let a = start .args in
+    let p = start .pre in
+    record {
+      fits = omega (
+        arith,
+        row-end (a .b .from) (a .i) (a .b .count) (a .b .width) (p .1),
+        lists-small (a .b .table) (a .cells .now) (a .scratch .now) _ (2 ^ 63) (p .0) (omega arith) (omega arith),
+      );
+    }
 
 add-part : tie.Need-add-part
 add-part c =
-    let a = c .before .before .before .args in
-    let p = c .before .before .before .pre in
-    record { fits = omega (arith, row-end (a .b .from) (a .i) (a .b .count) (a .b .width) (p .1), lists-small (a .b .table) (a .cells .now) (a .scratch .now) _ (2 ^ 63) (p .0) (omega arith) (omega arith)) }
+    let start = c .before .before .before in
+    let a = start .args in
+    let p = start .pre in
+    record {
+      fits = omega (
+        arith,
+        row-end (a .b .from) (a .i) (a .b .count) (a .b .width) (p .1),
+        lists-small (a .b .table) (a .cells .now) (a .scratch .now) _ (2 ^ 63) (p .0) (omega arith) (omega arith),
+      );
+    }
 
 part-requires : tie.Need-part-requires
 part-requires c κs =

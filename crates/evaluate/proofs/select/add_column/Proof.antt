@@ -18,7 +18,8 @@ use Rattle.evaluate.proofs.select.add_column.Tie as tie
 
 abbrev Inv-loop : tie.InvT-loop
 Inv-loop cells input t first second limit to scratch₀ width i₀ scratch i =
-    (i ≤ input .count) × (length scratch ≡ length scratch₀) × (all (all inRange) (addedTo cells scratch₀ input t first second i) ≡ true) × (scratch ≡ written scratch₀ to (cellsOf (addedTo cells scratch₀ input t first second i)))
+    (i ≤ input .count) × (length scratch ≡ length scratch₀) × (all (all inRange) (addedTo cells scratch₀ input t first second i) ≡ true) ×
+    (scratch ≡ written scratch₀ to (cellsOf (addedTo cells scratch₀ input t first second i)))
 
 abbrev μ-loop : tie.MeasureT-loop
 μ-loop cells input t first second limit to scratch₀ width i₀ scratch i = input .count - i
@@ -28,8 +29,12 @@ add-width c = search needs
 
 loop-holds : tie.Need-loop-holds Inv-loop μ-loop
 loop-holds c =
-    let a = c .before .args in
-    (search needs, refl, added-none (a .cells .now) (a .scratch .now) (a .input) (a .t) (a .first) (a .second), added-start (a .cells .now) (a .scratch .now) (a .input) (a .t) (a .first) (a .second) (a .to))
+    let a = c .before .args in (
+      search needs,
+      refl,
+      added-none (a .cells .now) (a .scratch .now) (a .input) (a .t) (a .first) (a .second),
+      added-start (a .cells .now) (a .scratch .now) (a .input) (a .t) (a .first) (a .second) (a .to),
+    )
 
 mul-at : tie.Need-mul-at Inv-loop μ-loop
 mul-at c =
@@ -90,15 +95,20 @@ taken-cell-requires-2 c κs =
 
 combine-requires : tie.Need-combine-requires Inv-loop μ-loop
 combine-requires c κs =
-    let a = c .before .before .before .before .before .before .before .before .before .before .before .args in
-    let p = c .before .before .before .before .before .before .before .before .before .before .before .pre in
-    let l = c .before .before .before .before .before .before .before .before .before .loop in
-    let h = c .before .before .before .before .before .before .before .if1 .taken in
-    let w = c .before .before .before .before .before .copy-row .ensures in (
+    let after-row = c .before .before in
+    let after-if = after-row .before .before .before .before .before in
+    let start = after-if .before .before .before .before in
+    let a = start .args in
+    let p = start .pre in
+    let l = after-if .before .before .loop in
+    let h = after-if .if1 .taken in
+    let w = after-row .before .before .before .copy-row .ensures in (
       operand-light (a .cells .now) (a .scratch .now) (a .input) (a .t) (a .first) (a .second) (a .to) (p .0 .0) (p .0 .4) (l .i) h (l .inv .3) w
-          (c .before .before .row .ensures) (a .first) (ap value (toZ-ofZ w64 _ (record { sfits = c .before .taken-cell .ok })) ∙ c .before .taken-cell .ensures) (p .1 .0) (p .1 .3),
+          (after-row .row .ensures) (a .first)
+          (ap value (toZ-ofZ w64 _ (record { sfits = c .before .taken-cell .ok })) ∙ c .before .taken-cell .ensures) (p .1 .0) (p .1 .3),
       operand-light (a .cells .now) (a .scratch .now) (a .input) (a .t) (a .first) (a .second) (a .to) (p .0 .0) (p .0 .4) (l .i) h (l .inv .3) w
-          (c .before .before .row .ensures) (a .second) (ap value (toZ-ofZ w64 _ (record { sfits = c .taken-cell2 .ok })) ∙ c .taken-cell2 .ensures) (p .1 .0) (p .1 .4),
+          (after-row .row .ensures) (a .second) (ap value (toZ-ofZ w64 _ (record { sfits = c .taken-cell2 .ok })) ∙ c .taken-cell2 .ensures) (p .1 .0)
+          (p .1 .4),
     )
 
 in-range-requires : tie.Need-in-range-requires Inv-loop μ-loop
@@ -115,41 +125,60 @@ same-length c =
 
 returns : tie.Need-returns Inv-loop μ-loop
 returns c =
-    let a = c .before .before .before .before .before .before .before .before .before .before .before .before .before .before .args in
-    let p = c .before .before .before .before .before .before .before .before .before .before .before .before .before .before .pre in
-    let l = c .before .before .before .before .before .before .before .before .before .before .before .before .loop in
-    let h = c .before .before .before .before .before .before .before .before .before .before .if1 .taken in
-    let w = c .before .before .before .before .before .before .before .before .copy-row .ensures in
+    let after-combine = c .before .before in
+    let after-taken-cell2 = after-combine .before in
+    let after-taken-cell = after-taken-cell2 .before in
+    let after-copy-row = after-taken-cell .before .before .before .before in
+    let turn = after-copy-row .before .before .before .before in
+    let start = turn .before .before in
+    let a = start .args in
+    let p = start .pre in
+    let l = turn .loop in
+    let h = after-copy-row .before .before .if1 .taken in
+    let w = after-copy-row .copy-row .ensures in
     let known = new-cell (a .cells .now) (a .scratch .now) (a .input) (a .t) (a .first) (a .second) (a .to) (p .0 .0) (p .0 .4) (l .i) h (l .inv .3) w
-    (c .before .before .before .before .before .row .ensures)
-    (ap value (toZ-ofZ w64 _ (record { sfits = c .before .before .before .before .taken-cell .ok })) ∙ c .before .before .before .before .taken-cell .ensures)
-    (ap value (toZ-ofZ w64 _ (record { sfits = c .before .before .before .taken-cell2 .ok })) ∙ c .before .before .before .taken-cell2 .ensures)
-    (ap value (toZ-ofZ w64 _ (record { sfits = c .before .before .combine .ok })) ∙ c .before .before .combine .ensures) in
-    added-out (a .cells .now) (a .scratch .now) (a .input) (a .t) (a .first) (a .second) (l .i) h known (a .limit) (a .to) _ (p .0 .1) (sym (c .before .in-range .ensures) ∙ not-true _ (c .if2 .taken))
+    (after-taken-cell .before .row .ensures)
+    (ap value (toZ-ofZ w64 _ (record { sfits = after-taken-cell .taken-cell .ok })) ∙ after-taken-cell .taken-cell .ensures)
+    (ap value (toZ-ofZ w64 _ (record { sfits = after-taken-cell2 .taken-cell2 .ok })) ∙ after-taken-cell2 .taken-cell2 .ensures)
+    (ap value (toZ-ofZ w64 _ (record { sfits = after-combine .combine .ok })) ∙ after-combine .combine .ensures) in
+    added-out (a .cells .now) (a .scratch .now) (a .input) (a .t) (a .first) (a .second) (l .i) h known (a .limit) (a .to) _ (p .0 .1)
+    (sym (c .before .in-range .ensures) ∙ not-true _ (c .if2 .taken))
 
 add-x : tie.Need-add-x Inv-loop μ-loop
 add-x c =
-    let a = c .before .before .before .before .before .before .before .before .before .before .before .before .before .before .before .args in
-    let i = c .before .before .before .before .before .before .before .before .before .before .before .before .before .loop .i in
-    let h : a .to + i * (a .input .width + 1) + a .input .width < 2 ^ 64 = omega (arith, c .before .before .before .before .before .before .before .before .before .before .before .before .before .before .before .good, mul-le-mul-right (a .input .width + 1) (c .before .before .before .before .before .before .before .before .before .before .before .if1 .taken)) in
+    let after-if = c .before .before .before .before .before .before .before .before .before .before .before in
+    let start = after-if .before .before .before .before in
+    let a = start .args in
+    let i = after-if .before .before .loop .i in
+    let h : a .to + i * (a .input .width + 1) + a .input .width < 2 ^ 64 =
+    omega (arith, start .good, mul-le-mul-right (a .input .width + 1) (after-if .if1 .taken)) in
     record { fits = h }
 
 mul-x : tie.Need-mul-x Inv-loop μ-loop
 mul-x c =
-    let a = c .before .before .before .before .before .before .before .before .before .before .before .before .before .before .before .args in
-    let i = c .before .before .before .before .before .before .before .before .before .before .before .before .before .loop .i in
+    let after-if = c .before .before .before .before .before .before .before .before .before .before .before in
+    let start = after-if .before .before .before .before in
+    let a = start .args in
+    let i = after-if .before .before .loop .i in
     scaled-fits (a .to + i * (a .input .width + 1) + a .input .width) (length (a .scratch .now)) 8
-    (omega (arith, mul-le-mul-right (a .input .width + 1) (c .before .before .before .before .before .before .before .before .before .before .before .if1 .taken)))
-    (omega (arith, c .before .before .before .before .before .before .before .before .before .before .before .before .before .before .before .good))
+    (omega (arith, mul-le-mul-right (a .input .width + 1) (after-if .if1 .taken)))
+    (omega (arith, start .good))
 
 slice-set-from-x : tie.Need-slice-set-from-x Inv-loop μ-loop
 slice-set-from-x c =
-    let a = c .before .before .before .before .before .before .before .before .before .before .before .before .before .before .before .args in
-    let p = c .before .before .before .before .before .before .before .before .before .before .before .before .before .before .before .pre in
-    let l = c .before .before .before .before .before .before .before .before .before .before .before .before .before .loop in
-    let h = c .before .before .before .before .before .before .before .before .before .before .before .if1 .taken in
-    let w = c .before .before .before .before .before .before .before .before .before .copy-row .ensures in
-    omega (arith, mul-le-mul-right (a .input .width + 1) h, copied-long (a .cells .now) (a .scratch .now) (a .input) (a .t) (a .first) (a .second) (a .to) (p .0 .0) (p .0 .4) (l .i) h (l .inv .3) w)
+    let after-copy-row = c .before .before .before .before .before .before .before .before .before in
+    let turn = after-copy-row .before .before .before .before in
+    let start = turn .before .before in
+    let a = start .args in
+    let p = start .pre in
+    let l = turn .loop in
+    let h = after-copy-row .before .before .if1 .taken in
+    let w = after-copy-row .copy-row .ensures in
+    omega (
+      arith,
+      mul-le-mul-right (a .input .width + 1) h,
+      copied-long (a .cells .now) (a .scratch .now) (a .input) (a .t) (a .first) (a .second) (a .to) (p .0 .0) (p .0 .4) (l .i) h (l .inv .3) w,
+    )
 
 add-i : tie.Need-add-i Inv-loop μ-loop
 add-i c = search needs
@@ -159,20 +188,29 @@ loop-less c = search needs
 
 loop-again : tie.Need-loop-again Inv-loop μ-loop
 loop-again c =
-    let a = c .before .before .before .before .before .before .before .before .before .before .before .before .before .before .before .args in
-    let p = c .before .before .before .before .before .before .before .before .before .before .before .before .before .before .before .pre in
-    let l = c .before .before .before .before .before .before .before .before .before .before .before .before .before .loop in
-    let h = c .before .before .before .before .before .before .before .before .before .before .before .if1 .taken in
-    let w = c .before .before .before .before .before .before .before .before .before .copy-row .ensures in
+    let after-combine = c .before .before .before in
+    let after-taken-cell2 = after-combine .before in
+    let after-taken-cell = after-taken-cell2 .before in
+    let after-copy-row = after-taken-cell .before .before .before .before in
+    let turn = after-copy-row .before .before .before .before in
+    let start = turn .before .before in
+    let a = start .args in
+    let p = start .pre in
+    let l = turn .loop in
+    let h = after-copy-row .before .before .if1 .taken in
+    let w = after-copy-row .copy-row .ensures in
     let known = new-cell (a .cells .now) (a .scratch .now) (a .input) (a .t) (a .first) (a .second) (a .to) (p .0 .0) (p .0 .4) (l .i) h (l .inv .3) w
-    (c .before .before .before .before .before .before .row .ensures)
-    (ap value (toZ-ofZ w64 _ (record { sfits = c .before .before .before .before .before .taken-cell .ok })) ∙ c .before .before .before .before .before .taken-cell .ensures)
-    (ap value (toZ-ofZ w64 _ (record { sfits = c .before .before .before .before .taken-cell2 .ok })) ∙ c .before .before .before .before .taken-cell2 .ensures)
-    (ap value (toZ-ofZ w64 _ (record { sfits = c .before .before .before .combine .ok })) ∙ c .before .before .before .combine .ensures) in (
+    (after-taken-cell .before .row .ensures)
+    (ap value (toZ-ofZ w64 _ (record { sfits = after-taken-cell .taken-cell .ok })) ∙ after-taken-cell .taken-cell .ensures)
+    (ap value (toZ-ofZ w64 _ (record { sfits = after-taken-cell2 .taken-cell2 .ok })) ∙ after-taken-cell2 .taken-cell2 .ensures)
+    (ap value (toZ-ofZ w64 _ (record { sfits = after-combine .combine .ok })) ∙ after-combine .combine .ensures) in (
       omega arith,
-      simp length-set (copied-long (a .cells .now) (a .scratch .now) (a .input) (a .t) (a .first) (a .second) (a .to) (p .0 .0) (p .0 .4) (l .i) h (l .inv .3) w),
-      added-ranged (a .cells .now) (a .scratch .now) (a .input) (a .t) (a .first) (a .second) (l .i) h known (p .1 .0) (l .inv .2) (sym (c .before .before .in-range .ensures) ∙ not-false _ (c .before .if2 .left)),
-      added-more (a .cells .now) (a .scratch .now) (a .input) (a .t) (a .first) (a .second) (a .to) (p .0 .0) (p .0 .4) (l .i) h (l .inv .3) w _ known,
+      simp length-set
+          (copied-long (a .cells .now) (a .scratch .now) (a .input) (a .t) (a .first) (a .second) (a .to) (p .0 .0) (p .0 .4) (l .i) h (l .inv .3) w),
+      added-ranged (a .cells .now) (a .scratch .now) (a .input) (a .t) (a .first) (a .second) (l .i) h known (p .1 .0) (l .inv .2)
+          (sym (c .before .before .in-range .ensures) ∙ not-false _ (c .before .if2 .left)),
+      added-more (a .cells .now) (a .scratch .now) (a .input) (a .t) (a .first) (a .second) (a .to) (p .0 .0) (p .0 .4) (l .i) h (l .inv .3) w _
+          known,
     )
 
 cast-t26 : tie.Need-cast-t26 Inv-loop μ-loop
@@ -183,10 +221,12 @@ same-length-2 c = c .before .before .before .loop .inv .1
 
 returns-2 : tie.Need-returns-2 Inv-loop μ-loop
 returns-2 c =
-    let a = c .before .before .before .before .before .args in
-    let p = c .before .before .before .before .before .pre in
+    let start = c .before .before .before .before .before in
+    let a = start .args in
+    let p = start .pre in
     let l = c .before .before .before .loop in
-    added-end (a .cells .now) (a .scratch .now) (a .input) (a .t) (a .first) (a .second) (a .limit) (a .to) (l .i) (l .scratch) (p .0 .1) (l .inv .0) (c .before .if1 .left) (l .inv .2) (l .inv .3)
+    added-end (a .cells .now) (a .scratch .now) (a .input) (a .t) (a .first) (a .second) (a .limit) (a .to) (l .i) (l .scratch) (p .0 .1) (l .inv .0)
+    (c .before .if1 .left) (l .inv .2) (l .inv .3)
 
 pub add-column-spec : {M : Type 1} → statement M
 add-column-spec =

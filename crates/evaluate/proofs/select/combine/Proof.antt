@@ -7,7 +7,9 @@ use Rattle.evaluate.proofs.select.combine.Statement.{statement}
 use Rattle.evaluate.proofs.select.combine.Tie as tie
 
 returns : tie.Need-returns
-returns c = ap value (toZ-ofZ w64 (c .before .args .a) (c .before .fits .a)) ∙ combined-copy (c .before .args .t) (value (c .before .args .a)) (value (c .before .args .b)) (c .if1 .taken)
+returns c =
+    ap value (toZ-ofZ w64 (c .before .args .a) (c .before .fits .a)) ∙ combined-copy (c .before .args .t) (value (c .before .args .a))
+    (value (c .before .args .b)) (c .if1 .taken)
 
 returns-2 : tie.Need-returns-2
 returns-2 c =
@@ -21,23 +23,27 @@ returns-3 c =
 
 add-result : tie.Need-add-result
 add-result c =
-    let s = c .before .before .before .before in
-    sum-fits (s .args .t) (c .before .before .before .if1 .left) (s .args .a) (s .args .b) (s .fits .a) (s .fits .b) (c .before .before .if2 .left) (c .before .if3 .left) (s .pre .0) (s .pre .1)
+    let start = c .before .before .before .before in
+    sum-fits (start .args .t) (c .before .before .before .if1 .left) (start .args .a) (start .args .b) (start .fits .a) (start .fits .b)
+    (c .before .before .if2 .left) (c .before .if3 .left) (start .pre .0) (start .pre .1)
 
 returns-4 : tie.Need-returns-4
 returns-4 c =
-    let s = c .before .before .before .before in
-    combined-sum (s .args .t) (c .before .before .before .if1 .left) (s .args .a) (s .args .b) (s .fits .a) (s .fits .b) (c .before .before .if2 .left) (c .before .if3 .left) (s .pre .0) (s .pre .1) (c .if4 .taken)
+    let start = c .before .before .before .before in
+    combined-sum (start .args .t) (c .before .before .before .if1 .left) (start .args .a) (start .args .b) (start .fits .a) (start .fits .b)
+    (c .before .before .if2 .left) (c .before .if3 .left) (start .pre .0) (start .pre .1) (c .if4 .taken)
 
 sub-result : tie.Need-sub-result
 sub-result c =
-    let s = c .before .before .before .before in
-    difference-fits (s .args .t) (c .before .before .before .if1 .left) (s .args .a) (s .args .b) (s .fits .a) (s .fits .b) (c .before .before .if2 .left) (c .before .if3 .left) (s .pre .0) (s .pre .1)
+    let start = c .before .before .before .before in
+    difference-fits (start .args .t) (c .before .before .before .if1 .left) (start .args .a) (start .args .b) (start .fits .a) (start .fits .b)
+    (c .before .before .if2 .left) (c .before .if3 .left) (start .pre .0) (start .pre .1)
 
 returns-5 : tie.Need-returns-5
 returns-5 c =
-    let s = c .before .before .before .before in
-    combined-difference (s .args .t) (c .before .before .before .if1 .left) (s .args .a) (s .args .b) (s .fits .a) (s .fits .b) (c .before .before .if2 .left) (c .before .if3 .left) (s .pre .0) (s .pre .1) (c .if4 .left)
+    let start = c .before .before .before .before in
+    combined-difference (start .args .t) (c .before .before .before .if1 .left) (start .args .a) (start .args .b) (start .fits .a) (start .fits .b)
+    (c .before .before .if2 .left) (c .before .if3 .left) (start .pre .0) (start .pre .1) (c .if4 .left)
 
 pub combine-spec : {M : Type 1} → statement M
 combine-spec =

@@ -50,20 +50,39 @@ tag-requires c κs = search needs
 
 add-column-requires : tie.Need-add-column-requires
 add-column-requires c κs =
-    let a = c .before .before .before .before .before .before .before .before .before .before .before .before .args in
-    let p = c .before .before .before .before .before .before .before .before .before .before .before .before .pre in
-    (p .1 .0, (p .1 .1, c .before .before .before .before .before .resolve .ensures .0 .0, c .before .before .resolve2 .ensures .0 .0, c .before .before .before .before .before .resolve .ensures .0 .1 refl, c .before .before .resolve2 .ensures .0 .1 refl))
+    let after-resolve2 = c .before .before in
+    let after-resolve = after-resolve2 .before .before .before in
+    let start = after-resolve .before .before .before .before .before .before .before in
+    let a = start .args in
+    let p = start .pre in (
+      p .1 .0,
+      (
+        p .1 .1,
+        after-resolve .resolve .ensures .0 .0,
+        after-resolve2 .resolve2 .ensures .0 .0,
+        after-resolve .resolve .ensures .0 .1 refl,
+        after-resolve2 .resolve2 .ensures .0 .1 refl,
+      ),
+    )
 
 same-length : tie.Need-same-length
 same-length c = search needs
 
 returns : tie.Need-returns
-returns c = λ o held.
-    let a = c .before .before .before .before .before .before .before .before .before .before .before .before .before .before .args in
-    let p = c .before .before .before .before .before .before .before .before .before .before .before .before .before .before .pre in
-    let wide = rows-wide (source (a .cells .now) (a .scratch .now) (a .input)) (a .input .from) (a .input .width) (a .input .count) (before-within (a .cells .now) (a .scratch .now) (a .to) (a .input) (p .1 .0 .0) (omega arith)) in
-    compute-makes o (itemAt (a .words .now) (a .j)) (a .input .width) (c .before .before .before .before .before .before .before .resolve .result) (c .before .before .before .before .resolve2 .result) (rowsOf (a .cells .now) (a .scratch .now) (a .input))
-    wide (c .before .before .before .before .before .before .before .before .first-term .ensures) (c .before .before .before .before .before .second-term .ensures) (c .before .before .before .tag .ensures) (c .before .before .before .before .before .before .before .resolve .ensures .1 o held) (c .before .before .before .before .resolve2 .ensures .1 o held) (c .before .add-column .ensures)
+returns c =
+    let after-resolve2 = c .before .before .before .before in
+    let after-resolve = after-resolve2 .before .before .before in
+    let start = after-resolve .before .before .before .before .before .before .before in
+    λ o held.
+    let a = start .args in
+    let p = start .pre in
+    let wide =
+    rows-wide (source (a .cells .now) (a .scratch .now) (a .input)) (a .input .from) (a .input .width) (a .input .count)
+    (before-within (a .cells .now) (a .scratch .now) (a .to) (a .input) (p .1 .0 .0) (omega arith)) in
+    compute-makes o (itemAt (a .words .now) (a .j)) (a .input .width) (after-resolve .resolve .result) (after-resolve2 .resolve2 .result)
+    (rowsOf (a .cells .now) (a .scratch .now) (a .input))
+    wide (after-resolve .before .first-term .ensures) (after-resolve2 .before .second-term .ensures) (c .before .before .before .tag .ensures)
+    (after-resolve .resolve .ensures .1 o held) (after-resolve2 .resolve2 .ensures .1 o held) (c .before .add-column .ensures)
 
 pub compute-spec : {M : Type 1} → statement M
 compute-spec =

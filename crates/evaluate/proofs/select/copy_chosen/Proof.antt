@@ -65,12 +65,15 @@ loop-less c = search needs
 
 loop-again : tie.Need-loop-again Inv-loop μ-loop
 loop-again c =
-    let a = c .before .before .before .before .before .before .before .before .before .args in
-    let p = c .before .before .before .before .before .before .before .before .before .pre in
-    let l = c .before .before .before .before .before .before .before .loop in (
+    let after-index = c .before .before .before .before in
+    let start = after-index .before .before .before .before .before in
+    let a = start .args in
+    let p = start .pre in
+    let l = after-index .before .before .before .loop in (
       omega arith,
       c .before .copy-row .kept .1 .1 .1 .1 .0 ∙ l .inv .1,
-      copied-more (a .cells .now) (a .scratch .now) (a .b) (a .found .now) (a .n) (a .to) (p .0) (p .3) (p .5) (p .6) (l .k) (c .before .before .before .before .before .before .loop-test .taken) (c .before .before .before .before .index .ensures) (l .inv .2) (c .before .copy-row .ensures),
+      copied-more (a .cells .now) (a .scratch .now) (a .b) (a .found .now) (a .n) (a .to) (p .0) (p .3) (p .5) (p .6) (l .k)
+          (after-index .before .before .loop-test .taken) (after-index .index .ensures) (l .inv .2) (c .before .copy-row .ensures),
     )
 
 same-length : tie.Need-same-length Inv-loop μ-loop
@@ -81,7 +84,8 @@ returns c =
     let a = c .before .before .before .args in
     let l = c .before .loop in
     let q : l .k ≡ a .n = omega arith in
-    l .inv .2 ∙ ap (λ (k : ℕ). written (a .scratch .now) (a .to) (cellsOf (map (rowOf (a .cells .now) (a .scratch .now) (a .b)) (take k (a .found .now))))) q
+    l .inv .2 ∙ ap
+    (λ (k : ℕ). written (a .scratch .now) (a .to) (cellsOf (map (rowOf (a .cells .now) (a .scratch .now) (a .b)) (take k (a .found .now))))) q
 
 pub copy-chosen-spec : {M : Type 1} → statement M
 copy-chosen-spec =

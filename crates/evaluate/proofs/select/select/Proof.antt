@@ -21,14 +21,18 @@ part-find-end c = search needs
 
 rows-requires : tie.Need-rows-requires
 rows-requires c κs =
-    let a = c .before .before .before .before .before .before .args in
-    let p = c .before .before .before .before .before .before .pre in (before-within (a .cells .now) (a .scratch .now) (a .to) (a .input) (p .1 .1 .0 .0) (omega arith), omega arith, omega arith)
+    let start = c .before .before .before .before .before .before in
+    let a = start .args in
+    let p = start .pre in (before-within (a .cells .now) (a .scratch .now) (a .to) (a .input) (p .1 .1 .0 .0) (omega arith), omega arith, omega arith)
 
 find-requires : tie.Need-find-requires
 find-requires c κs =
-    let a = c .before .before .before .before .before .before .before .before .args in
-    let p = c .before .before .before .before .before .before .before .before .pre in
-    let e = read-long (source (a .cells .now) (a .scratch .now) (a .input)) (a .input .from) (a .input .count * a .input .width) (c .before .rows .ensures) (before-within (a .cells .now) (a .scratch .now) (a .to) (a .input) (p .1 .1 .0 .0) (omega arith)) in
+    let start = c .before .before .before .before .before .before .before .before in
+    let a = start .args in
+    let p = start .pre in
+    let e =
+    read-long (source (a .cells .now) (a .scratch .now) (a .input)) (a .input .from) (a .input .count * a .input .width) (c .before .rows .ensures)
+    (before-within (a .cells .now) (a .scratch .now) (a .to) (a .input) (p .1 .1 .0 .0) (omega arith)) in
     (p .0, (p .1 .0, (omega arith, omega arith, omega arith, omega arith)))
 
 copy-chosen-requires : tie.Need-copy-chosen-requires
@@ -49,11 +53,12 @@ same-length-2 c = search needs
 
 returns : tie.Need-returns
 returns c = λ o held.
-    let a = c .before .before .before .before .before .before .before .before .before .before .before .before .before .before .before .args in
-    let p = c .before .before .before .before .before .before .before .before .before .before .before .before .before .before .before .pre in
-    let f = c .before .before .before .before .before .before .find .ensures in
-    select-makes o (conjunctsFrom (a .words .now) (a .j) (a .conjuncts)) (a .cells .now) (a .scratch .now) (a .input) (a .limit) (a .to) (c .before .before .before .before .before .before .find .result) (c .before .before .before .before .before .before .find .last .1 .1 .1 .1 .1 .1 .1 .1 .1 .1 .1 .1 .0)
-    (c .before .before .before .before .before .before .before .before .rows .ensures) (f .0 o held) (omega arith) (omega arith) (p .1 .1 .1) (c .before .copy-chosen .ensures)
+    let found = c .before .before .before .before .before .before in
+    let a = found .before .before .before .before .before .before .before .before .before .args in
+    let p = found .before .before .before .before .before .before .before .before .before .pre in
+    select-makes o (conjunctsFrom (a .words .now) (a .j) (a .conjuncts)) (a .cells .now) (a .scratch .now) (a .input) (a .limit) (a .to)
+    (found .find .result) (found .find .last .1 .1 .1 .1 .1 .1 .1 .1 .1 .1 .1 .1 .0)
+    (found .before .before .rows .ensures) (found .find .ensures .0 o held) (omega arith) (omega arith) (p .1 .1 .1) (c .before .copy-chosen .ensures)
 
 pub select-spec : {M : Type 1} → statement M
 select-spec =

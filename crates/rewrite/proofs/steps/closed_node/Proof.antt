@@ -8,6 +8,7 @@ use lib.ListN.{getD}
 use borrow.Author.Tests.{not-true, not-false}
 use Rattle.algebra.specs.Columns.{closed, shapeAt}
 use Rattle.algebra.specs.Domains.{domainKeys, outside}
+use Rattle.plan.proofs.Laws.Formed.{dependent-left, dependent-right}
 use Rattle.plan.specs.Words.{left, nodes, operator, right}
 use Rattle.plan.specs.Plan.{nodesOf, widthsOf}
 use Rattle.plan.specs.Verdict.{widthAt}
@@ -16,7 +17,7 @@ use Rattle.rewrite.specs.Reads.{readsAt}
 use Rattle.rewrite.proofs.Laws.Domains.{inner-domain}
 use Rattle.rewrite.proofs.Laws.Limits.{node-index}
 use Rattle.rewrite.proofs.Laws.Put.{inner-sound, is-closed, is-open, width-few, width-is}
-use Rattle.rewrite.proofs.Laws.Closed.{left-node, right-node, keys-are, domain-over, inner-closes, copy-closes}
+use Rattle.rewrite.proofs.Laws.Closed.{keys-are, domain-over, inner-closes, copy-closes}
 use borrow.Author.Needs.{needs}
 use Rattle.rewrite.proofs.steps.closed_node.Statement.{statement}
 use Rattle.rewrite.proofs.steps.closed_node.Tie as tie
@@ -34,10 +35,10 @@ eight c = sym (c .before .before .before .operator .ensures) ∙ c .before .befo
 
 -- the inputs are nodes of the plan
 there-left : (c : tie.After-right) → left (ws c) (start c .args .n) < nodes (ws c)
-there-left c = left-node (ws c) (start c .pre .0) (start c .args .n) (start c .pre .1) (eight c)
+there-left c = dependent-left (ws c) (start c .pre .0 .formed) (start c .args .n) (start c .pre .1) (eight c)
 
 there-right : (c : tie.After-right) → right (ws c) (start c .args .n) < nodes (ws c)
-there-right c = right-node (ws c) (start c .pre .0) (start c .args .n) (start c .pre .1) (eight c)
+there-right c = dependent-right (ws c) (start c .pre .0 .formed) (start c .args .n) (start c .pre .1) (eight c)
 
 -- they have their places in the tables
 low-left : (c : tie.After-right) → c .before .left .result < 256
@@ -199,7 +200,7 @@ returns-3 c =
     let s = p .before .before in
     copy-closes (s .args .words .now) (s .pre .0) (s .args .n) (s .pre .1) _
     (λ e.
-    ⊎-elim (λ w. is-closed (s .args .words .now) (s .args .reaches .now) (s .pre .3) _ (right-node (s .args .words .now) (s .pre .0) (s .args .n) (s .pre .1) e) (w .3 .ensures ∙ w .2 .ensures) (omega (arith, w .5 .left)))
+    ⊎-elim (λ w. is-closed (s .args .words .now) (s .args .reaches .now) (s .pre .3) _ (dependent-right (s .args .words .now) (s .pre .0 .formed) (s .args .n) (s .pre .1) e) (w .3 .ensures ∙ w .2 .ensures) (omega (arith, w .5 .left)))
     (λ w. absurd (w .left (p .operator .ensures ∙ e))) (c .before .before .before .before .if1 .came))
     (c .copy-node .ensures) refl
 
