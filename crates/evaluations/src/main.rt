@@ -3,13 +3,13 @@
 // A record is a name, the row limit, the cells of scratch and of output, the plan's words, the row counts, and the database cells, two words each.
 use evaluate::Evaluated;
 use evaluate::evaluate;
+use input::least;
 use libc::STDOUT_FILENO;
+use plan::words::wide;
 use records::RECORDS;
-use records::least;
 use records::print_next;
 use records::read_number;
 use records::read_part;
-use records::wide;
 ghost use Prim.Native.Nat.{_≤_};
 ghost use mathlib.Core.Path.{_≡_};
 ghost use lib.ListN.{length, take};

@@ -1,22 +1,16 @@
 // Records of the programs that answer them: a part is a byte count and that many bytes, a number has its least byte first.
+use input::least;
 use libc::STDOUT_FILENO;
 ghost use mathlib.Core.Path.{_≡_};
-ghost use Prim.Native.Nat.{_≤_};
 ghost use Rattle.io.specs.Counts.{Counts};
 
 // At most so many records are read, so that every input ends.
 pub const RECORDS: u32 = 1000;
 
-pub fn wide(x: u32) -> usize
+fn wide(x: u32) -> usize
     ensures { λ r. ⌜ r ≡ x ⌝ }
 {
     x as usize
-}
-
-pub fn least(a: usize, b: usize) -> usize
-    ensures { λ r. ⌜ (r ≤ a) × (r ≤ b) ⌝ }
-{
-    if a < b { a } else { b }
 }
 
 // A number of a record, 0 where the input ends.

@@ -2,13 +2,13 @@
 // those words, and whether the output behind them is as it was lent.
 // A record is a name, the words of room in the output, and a plan's words; the name and the plan are each a byte count and that many bytes.
 // Numbers have their least byte first.
+use input::least;
 use libc::STDOUT_FILENO;
+use plan::words::wide;
 use records::RECORDS;
-use records::least;
 use records::print_next;
 use records::read_number;
 use records::read_part;
-use records::wide;
 use rewrite::Rewritten;
 use rewrite::rewrite;
 ghost use Prim.Native.Nat.{_≤_};
