@@ -10,7 +10,8 @@ use lib.ListN.{length, getD, length-append}
 use borrow.Author.Tests.{ltb-true, ltb-false, lt-ltb, eqb-true, eqb-false, eq-eqb, not-false}
 use Rattle.algebra.specs.Lists.{keep, any, all, each, isEmpty, Every, done, more}
 use Rattle.algebra.specs.Value.{Row}
-use Rattle.algebra.specs.Plan.{Term, column, outer, constant, nothing, Conjunct, Computation, copy, add, subtract, Node, scan, select, compute, project, join, group, groupjoin, dependent, inputs}
+use Rattle.algebra.specs.Plan.{Term, column, outer, constant, nothing, Conjunct, Computation, copy, add, subtract}
+use Rattle.algebra.specs.Plan.{Node, scan, select, compute, project, join, group, groupjoin, dependent, inputs}
 use Rattle.algebra.specs.Columns.{Column, termReads, conjunctReads, computationReads, past, pastOne, readsOf, Shape, shapeless, shapeOf, shapeAt, closed}
 use Rattle.algebra.specs.Meaning.{Database, answer}
 use Rattle.algebra.specs.Rewriting.{rewritten}
@@ -21,7 +22,8 @@ use Rattle.algebra.proofs.Lists.Entries.{entry-before}
 use Rattle.algebra.proofs.Statements.{equally-often, four-nodes-each}
 use Rattle.plan.specs.Words.{nodes}
 use Rattle.plan.specs.Plan.{nodeAt, widthsOf, nodesOf}
-use Rattle.plan.specs.Verdict.{Answer, lowest, headerRight, limitsRight, nodeRight, isUnusedNode, isTooWide, isOpen, isOpenTwice, usesOf, widthAt, termThere, conjunctThere, computationThere, columnsThere, scopeOf, columnsRight, accepted, orElse, verdict}
+use Rattle.plan.specs.Verdict.{Answer, lowest, headerRight, limitsRight, nodeRight, isUnusedNode, isTooWide, isOpen, isOpenTwice, usesOf}
+use Rattle.plan.specs.Verdict.{widthAt, termThere, conjunctThere, computationThere, columnsThere, scopeOf, columnsRight, accepted, orElse, verdict}
 use Rattle.plan.specs.Promise.{Formed, Accepted}
 use Rattle.plan.proofs.Laws.Loops.{lowest-not}
 use Rattle.plan.proofs.Laws.Formed.{mapped-at, limited, inputs-below, nodes-length, shape-of}
@@ -48,7 +50,8 @@ module _ (around : List ℕ) (w : ℕ) where
   conjuncts-inside : (cs : List Conjunct) → all (conjunctThere around w) cs ≡ true → Inside around (each conjunctReads cs)
   conjuncts-inside [] e = done
   conjuncts-inside (c ∷ cs) e =
-      every-append (two-inside (c .first) (c .second) (and-left (conjunctThere around w c) _ e)) (conjuncts-inside cs (and-right (conjunctThere around w c) _ e))
+      every-append (two-inside (c .first) (c .second) (and-left (conjunctThere around w c) _ e))
+      (conjuncts-inside cs (and-right (conjunctThere around w c) _ e))
 
   computation-inside : (c : Computation) → computationThere around w c ≡ true → Inside around (computationReads c)
   unfolding computationThere
@@ -101,7 +104,8 @@ module _ (sh : ℕ → Shape) (around : List ℕ) where
   reads-inside (project ps i) e s = s
   reads-inside (join k cs l r) e s = every-append (conjuncts-inside around _ cs e) (every-append (s .0) (s .1))
   reads-inside (group ks gs i) e s = s
-  reads-inside (groupjoin cs gs l r) e s = every-append (conjuncts-inside around _ cs (and-left (all (conjunctThere around _) cs) _ e)) (every-append (s .0) (s .1))
+  reads-inside (groupjoin cs gs l r) e s =
+      every-append (conjuncts-inside around _ cs (and-left (all (conjunctThere around _) cs) _ e)) (every-append (s .0) (s .1))
   reads-inside (dependent k cs l r) e s = every-append (conjuncts-inside around _ cs e) (every-append (s .0) (past-inside _ around (s .1)))
 
   -- and the node may stand behind its inputs
@@ -148,7 +152,8 @@ module _ (widths : List ℕ) where
       (f .0, f .1, rw (entry-before shapeless (shapeOf widths) front back l (f .0), entry-before shapeless (shapeOf widths) front back r (f .1)) at (f .2))
 
   -- every node of ns may stand behind those of front
-  fine-all : (d : Node) (front ns : List Node) → ((i : ℕ) → i < length ns → Fine (shapeAt widths (front ++ ns)) (length front + i) (getD ns i d)) → FineFrom widths front ns
+  fine-all : (d : Node) (front ns : List Node) → ((i : ℕ) → i < length ns → Fine (shapeAt widths (front ++ ns)) (length front + i) (getD ns i d))
+      → FineFrom widths front ns
   fine-all d front [] h = tt
   fine-all d front (n ∷ ns) h =
       (fine-before front (n ∷ ns) n (rw add-zero at (h 0 (omega arith))), fine-all d (front ++ (n ∷ [])) ns (λ i l. next i (h (suc i) (omega arith))))
@@ -183,7 +188,8 @@ module _ (ws : List ℕ) (f : Formed ws) (once : OpenOnce (widthsOf ws) (nodesOf
   sides-at : (n : ℕ) → n < nodes ws → ((m : ℕ) → m < n → Inside (scopeOf ws m) (shapes m .reads)) → Sides shapes (scopeOf ws n) (nodeAt ws n)
   sides-at n h before =
       sides shapes (scopeOf ws n) (nodeAt ws n)
-      (every-map (λ m g. input-inside n m h (g .0) (g .1) (before m (g .0))) (every-both (inputs-below ws f n h) (any-self eqb (λ m. eq-eqb m m refl) (inputs (nodeAt ws n)))))
+      (every-map (λ m g. input-inside n m h (g .0) (g .1) (before m (g .0)))
+      (every-both (inputs-below ws f n h) (any-self eqb (λ m. eq-eqb m m refl) (inputs (nodeAt ws n)))))
       (every-map (λ m g e. omega (arith, here-few (nodeAt ws) m n (nodes ws) h, used-once m (omega arith) e)) (inputs-below ws f n h))
 
   -- what a node reads exists in what stands around it
@@ -191,7 +197,8 @@ module _ (ws : List ℕ) (f : Formed ws) (once : OpenOnce (widthsOf ws) (nodesOf
   unfolding columnsRight
   inside-at zero n l h = absurd (omega arith)
   inside-at (suc bound) n l h =
-      rw (shape-of ws f n h) (reads-inside shapes (scopeOf ws n) (nodeAt ws n) (columns n h) (sides-at n h (λ m g. inside-at bound m (omega arith) (omega arith))))
+      rw (shape-of ws f n h)
+      (reads-inside shapes (scopeOf ws n) (nodeAt ws n) (columns n h) (sides-at n h (λ m g. inside-at bound m (omega arith) (omega arith))))
 
   -- the same without a bound
   all-inside : (n : ℕ) → n < nodes ws → Inside (scopeOf ws n) (shapes n .reads)
@@ -211,7 +218,8 @@ module _ (ws : List ℕ) (f : Formed ws) (once : OpenOnce (widthsOf ws) (nodesOf
       let some = limited ws (f .sized) .nodes-some in
       record {
         some = rw (nodes-length ws) some;
-        nodes = fine-all (widthsOf ws) (nodeAt ws 0) [] (nodesOf ws) (λ n h. rw (zero-add, mapped-at (nodeAt ws) (nodes ws) n 0 (rw (nodes-length ws) at h)) (node-fine n (rw (nodes-length ws) at h)));
+        nodes = fine-all (widthsOf ws) (nodeAt ws 0) [] (nodesOf ws)
+            (λ n h. rw (zero-add, mapped-at (nodeAt ws) (nodes ws) n 0 (rw (nodes-length ws) at h)) (node-fine n (rw (nodes-length ws) at h)));
         root = rw (nodes-length ws) (root-closed (pred (nodes ws)) (omega arith));
       }
 
@@ -248,11 +256,15 @@ promise ws e =
       sized = record { header = not-false (headerRight ws) (first .0); limits = not-false (limitsRight ws) (second .0) };
       formed = λ n h. not-false (nodeRight ws n) (third .0 n h);
     } in
-    let once : OpenOnce (widthsOf ws) (nodesOf ws) = λ n h o. ltb-false 1 (usesOf ws n) (and-not (isOpen ws n) _ (sixth .0 n (rw (nodes-length ws) at h)) (ap not o)) in
+    let once : OpenOnce (widthsOf ws) (nodesOf ws) =
+    λ n h o. ltb-false 1 (usesOf ws n) (and-not (isOpen ws n) _ (sixth .0 n (rw (nodes-length ws) at h)) (ap not o)) in
     let columns : (n : ℕ) → n < nodes ws → columnsRight ws n ≡ true = λ n h. not-false (columnsRight ws n) (seventh .0 n h) in
     record {
       formed = formed;
-      used = λ n h. omega (arith, eqb-false (usesOf ws n) 0 (and-not (ltb (n + 1) (nodes ws)) _ (fourth .0 n (omega arith)) (lt-ltb (n + 1) (nodes ws) (omega arith))));
+      used = λ n h. omega (
+        arith,
+        eqb-false (usesOf ws n) 0 (and-not (ltb (n + 1) (nodes ws)) _ (fourth .0 n (omega arith)) (lt-ltb (n + 1) (nodes ws) (omega arith))),
+      );
       narrow = λ n h. ltb-false 64 (widthAt ws n) (fifth .0 n h);
       once = once;
       columns = columns;

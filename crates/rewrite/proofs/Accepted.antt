@@ -76,14 +76,17 @@ within-says widths ns e =
     record {
       nodes-few = leb-true _ _ (and-left (leb (length ns) 256) _ e);
       items-few = leb-true _ _ (and-left (leb (length (allItems ns)) 2000) _ rest);
-      narrow = λ n h. leb-true _ _ (upto-all (length ns) (every-all (λ i. leb (shapeAt widths ns i .width) 64) (upto (length ns)) (and-right (leb (length (allItems ns)) 2000) _ rest)) n h);
+      narrow =
+          λ n h. leb-true _ _ (upto-all (length ns) (every-all (λ i. leb (shapeAt widths ns i .width) 64) (upto (length ns))
+          (and-right (leb (length (allItems ns)) 2000) _ rest)) n h);
     }
 
 -- the widths of the tables
 tables-within : (ws : List ℕ) → Limits ws → Every (λ w. (1 ≤ w) × (w ≤ 64)) (widthsOf ws)
 tables-within ws l =
     every-mapped (tableWidth ws)
-    (every-map (λ t h. (between-low 1 64 (tableWidth ws t) h, between-high 1 64 (tableWidth ws t) h)) (every-all (λ t. between 1 64 (tableWidth ws t)) (upto (tables ws)) (l .widths)))
+    (every-map (λ t h. (between-low 1 64 (tableWidth ws t) h, between-high 1 64 (tableWidth ws t) h))
+    (every-all (λ t. between 1 64 (tableWidth ws t)) (upto (tables ws)) (l .widths)))
 
 -- ---- the rewriting of an accepted plan
 
@@ -97,7 +100,8 @@ module _ (ws : List ℕ) (a : Accepted ws) where
   new-ordered =
       ordered-all (scan 0) (newPlan ws)
       (λ i h.
-      tidy-node _ i (getD (newPlan ws) i (scan 0)) (every-in (scan 0) (no-dependent-join (widthsOf ws) (nodesOf ws) (a .plan)) i h) (new-inputs i h) (columns-there ws a i (scan 0) h))
+      tidy-node _ i (getD (newPlan ws) i (scan 0)) (every-in (scan 0) (no-dependent-join (widthsOf ws) (nodesOf ws) (a .plan)) i h) (new-inputs i h)
+      (columns-there ws a i (scan 0) h))
 
   module _ (small : Every (λ w. w < 2 ^ 32) ws) where
     -- the limits of the plan's words
@@ -139,7 +143,9 @@ module _ (ws : List ℕ) (a : Accepted ws) where
     unfolding columnsRight
     new-columns n h =
         let d : Node = nodeAt (newWords ws) 0 in
-        let at : nodeAt (newWords ws) n ≡ getD (newPlan ws) n d = sym (mapped-at (nodeAt (newWords ws)) (nodes (newWords ws)) n 0 (rw (nodes-of (widthsOf ws) (newPlan ws)) h)) ∙ ap (λ (l : List Node). getD l n d) nodes-back in
+        let at : nodeAt (newWords ws) n ≡ getD (newPlan ws) n d =
+        sym (mapped-at (nodeAt (newWords ws)) (nodes (newWords ws)) n 0 (rw (nodes-of (widthsOf ws) (newPlan ws)) h))
+        ∙ ap (λ (l : List Node). getD l n d) nodes-back in
         (λ i. columnsThere (λ j. shapes-back i j .width) (new-scope (nodes (newWords ws)) n i) (at i)) ∙ columns-there ws a n d h
 
     module _ (within : Within (widthsOf ws) (newPlan ws)) where
@@ -170,7 +176,9 @@ module _ (ws : List ℕ) (a : Accepted ws) where
 
           unused : (n : ℕ) (b : Bool) → ltb (n + 1) (nodes (newWords ws)) ≡ b → (b && eqb (uses (nodesOf (newWords ws)) n) 0) ≡ false
           unused n true e =
-              let used = all-used (widthsOf ws) (nodesOf ws) (a .plan) (λ i h. a .used i (rw (nodes-length ws) at h)) n (omega (arith, count, ltb-true (n + 1) (nodes (newWords ws)) e)) in
+              let used =
+              all-used (widthsOf ws) (nodesOf ws) (a .plan) (λ i h. a .used i (rw (nodes-length ws) at h)) n
+              (omega (arith, count, ltb-true (n + 1) (nodes (newWords ws)) e)) in
               ap (λ (l : List Node). eqb (uses l n) 0) nodes-back ∙ ne-eqb (uses (newPlan ws) n) 0 (λ q. omega arith)
           unused n false e = refl
 

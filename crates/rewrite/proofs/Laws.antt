@@ -24,6 +24,7 @@ pub mod Emitted
 pub mod Joined
 pub mod Finish
 pub mod Alike
+pub mod Behind
 pub mod Fuel
 pub mod Inputs
 pub mod Standing

@@ -17,10 +17,12 @@ use Rattle.algebra.proofs.Lists.Same.{and-left, and-right}
 use Rattle.plan.specs.declared.terms.Term.{Term}
 use Rattle.plan.specs.declared.terms.Term.the-variants.{Local, Outer, Constant, Null}
 use Rattle.plan.specs.Words.{Item, nodes, operator, left, right, kind, firstItem, itemCount, itemsOf}
-use Rattle.plan.specs.Items.{between, isConjunct, isComputation, isKey, isOutput, isAggregate, positionOf, termOf, conjunctOf, computationOf, aggregateOf, conjunctsIn, keysIn, aggregatesIn, conjunctRight, computationRight, keyRight, outputRight, aggregateRight}
+use Rattle.plan.specs.Items.{between, isConjunct, isComputation, isKey, isOutput, isAggregate, positionOf, termOf, conjunctOf, computationOf}
+use Rattle.plan.specs.Items.{aggregateOf, conjunctsIn, keysIn, aggregatesIn, conjunctRight, computationRight, keyRight, outputRight, aggregateRight}
 use Rattle.plan.specs.Plan.{nodeFor, kindOf, computationIn}
 use Rattle.plan.specs.Terms.{meant}
-use Rattle.plan.specs.Verdict.{termThere, conjunctThere, computationThere, aggregateThere, columnsThere, inFront, itemsRight, hasRight, widthAt, scopeOf, columnsRight}
+use Rattle.plan.specs.Verdict.{termThere, conjunctThere, computationThere, aggregateThere, columnsThere, columnsRight}
+use Rattle.plan.specs.Verdict.{inFront, itemsRight, hasRight, widthAt, scopeOf}
 use Rattle.plan.specs.Promise.{Formed}
 use Rattle.plan.specs.Passes.{Widths, itemThere}
 use Rattle.plan.proofs.Laws.Loops.{all-map, by-one}
@@ -51,16 +53,16 @@ module _ (scope : List ℕ) (w : ℕ) (t : Term) where
 
 -- ---- an item
 
-module _ (scope : List ℕ) (w v : ℕ) (x : Item) (t : ℕ) (e : t ≡ x .tag) where
+module _ (scope : List ℕ) (w v : ℕ) (x : Item) {t : ℕ} (e : t ≡ x .tag) where
   -- a count
   pub item-count : t ≡ 13 → true ≡ itemThere scope w v x
   item-count h = rw (sym e, h)
 
   -- a key, an output column or another aggregate
-  pub item-position : (p : ℕ) → 11 ≤ t → t < 17 → (t ≡ 13 → ⊥) → p ≡ positionOf x → ltb p v ≡ itemThere scope w v x
-  item-position p g h n d = rw (sym e, le-leb 11 t g, le-leb t 16 (omega arith), ne-eqb t 13 n, d)
+  pub item-position : 11 ≤ t → t < 17 → (t ≡ 13 → ⊥) → {p : ℕ} → p ≡ positionOf x → ltb p v ≡ itemThere scope w v x
+  item-position g h n d = rw (sym e, le-leb 11 t g, le-leb t 16 (omega arith), ne-eqb t 13 n, d)
 
-  module _ (u : algebra.Term) (q : u ≡ termOf (x .first)) (r : Bool) (d : r ≡ termThere scope w u) where
+  module _ {u : algebra.Term} (q : u ≡ termOf (x .first)) {r : Bool} (d : r ≡ termThere scope w u) where
     -- a copy
     pub item-copy : t ≡ 8 → r ≡ itemThere scope w v x
     item-copy h = d ∙ rw (q, sym e, h) (sym (and-true (termThere scope w (termOf (x .first)))))
@@ -70,8 +72,9 @@ module _ (scope : List ℕ) (w v : ℕ) (x : Item) (t : ℕ) (e : t ≡ x .tag) 
     item-missing b h = rw (sym e, b, sym q, sym d, not-true r h)
 
     -- or is there
-    pub item-both : between 11 16 t ≡ false → (t ≡ 8 → ⊥) → not r ≡ false → (u₂ : algebra.Term) (s : Bool) → u₂ ≡ termOf (x .second) → s ≡ termThere scope w u₂ → s ≡ itemThere scope w v x
-    item-both b n h u₂ s z c = c ∙ rw (z, sym e, b, sym q, sym d, not-false r h, ne-eqb t 8 n)
+    pub item-both : between 11 16 t ≡ false → (t ≡ 8 → ⊥) → not r ≡ false
+        → {u₂ : algebra.Term} {s : Bool} → u₂ ≡ termOf (x .second) → s ≡ termThere scope w u₂ → s ≡ itemThere scope w v x
+    item-both b n h z c = c ∙ rw (z, sym e, b, sym q, sym d, not-false r h, ne-eqb t 8 n)
 
 -- a tag below 11 or above 16 names no position
 pub outside-low : (t : ℕ) → t < 11 → between 11 16 t ≡ false
@@ -83,7 +86,8 @@ outside-high t h = rw (lt-leb t 16 (omega arith), and-false (leb 11 t))
 -- ---- the items of a node
 
 -- the place of an item of node n
-pub item-place : (ws : List ℕ) → Formed ws → (n a many i : ℕ) → n < nodes ws → a ≡ firstItem ws n → many ≡ itemCount ws n → i < many → a + i < 2000
+pub item-place : (ws : List ℕ) → Formed ws → (n a many i : ℕ) → n < nodes ws → a ≡ firstItem ws n → many ≡ itemCount ws n → i < many
+    → a + i < 2000
 item-place ws f n a many i h e d l = omega (arith, facts-at ws f n h .within, limited ws (f .sized) .items-few)
 
 -- ---- items by their sorts
@@ -99,8 +103,8 @@ and-swap true b c = refl
 and-swap false b c = sym (and-false b)
 
 -- items of two sorts pass as the items do
-sorts-all : {B C : Type 0} (is js : Item → Bool) (f : Item → B) (g : Item → C) (passes : B → Bool) (takes : C → Bool) (there : Item → Bool) {xs : List Item}
-    → Every (OfTwo is js there (λ x. passes (f x)) (λ x. takes (g x))) xs
+sorts-all : {B C : Type 0} (is js : Item → Bool) (f : Item → B) (g : Item → C) (passes : B → Bool) (takes : C → Bool) (there : Item → Bool)
+    {xs : List Item} → Every (OfTwo is js there (λ x. passes (f x)) (λ x. takes (g x))) xs
     → (all passes (map f (keep is xs)) && all takes (map g (keep js xs))) ≡ all there xs
 sorts-all is js f g passes takes there done = refl
 sorts-all is js f g passes takes there (more {x} {xs} (of-first a b e) t) =
@@ -128,13 +132,14 @@ module _ (scope : List ℕ) (w v : ℕ) (x : Item) where
       second = termThere scope w (termOf (x .second))
 
       go : (a b : Bool)
-          → computationThere scope w (cond a (copy (termOf (x .first))) (cond b (add (termOf (x .first)) (termOf (x .second))) (subtract (termOf (x .first)) (termOf (x .second))))) ≡ (first && cond a true second)
+          → (let p = termOf (x .first) in let q = termOf (x .second) in computationThere scope w (cond a (copy p) (cond b (add p q) (subtract p q))))
+          ≡ (first && cond a true second)
       go true b = sym (and-true first)
       go false true = refl
       go false false = refl
 
   position-there : 11 ≤ x .tag → x .tag ≤ 12 → ltb (positionOf x) v ≡ itemThere scope w v x
-  position-there g h = item-position scope w v x (x .tag) refl (positionOf x) g (omega arith) (λ e. omega arith) refl
+  position-there g h = item-position scope w v x refl g (omega arith) (λ e. omega arith) refl
 
   aggregate-there : isAggregate x ≡ true → aggregateThere v (aggregateOf x) ≡ itemThere scope w v x
   unfolding aggregateThere aggregateOf
@@ -157,43 +162,63 @@ module _ (scope : List ℕ) (w v : ℕ) (xs : List Item) where
   -- conjuncts, or output columns, alone
   conjuncts-there : all conjunctRight xs ≡ true → all (conjunctThere scope w) (conjunctsIn xs) ≡ all (itemThere scope w v) xs
   conjuncts-there e =
-      let t : Every (λ x. isConjunct x ≡ true) xs = every-map (λ x (h : conjunctRight x ≡ true). and-left (isConjunct x) _ h) (every-all conjunctRight xs e) in
-      rw (keep-all isConjunct t) (all-map conjunctOf (conjunctThere scope w) (itemThere scope w v) (every-map (λ x (c : isConjunct x ≡ true). conjunct-there scope w v x c) t))
+      let t : Every (λ x. isConjunct x ≡ true) xs =
+      every-map (λ x (h : conjunctRight x ≡ true). and-left (isConjunct x) _ h) (every-all conjunctRight xs e) in
+      rw (keep-all isConjunct t)
+      (all-map conjunctOf (conjunctThere scope w) (itemThere scope w v) (every-map (λ x (c : isConjunct x ≡ true). conjunct-there scope w v x c) t))
 
   outputs-there : all outputRight xs ≡ true → all (λ p. ltb p v) (map positionOf xs) ≡ all (itemThere scope w v) xs
   outputs-there e = all-map positionOf (λ p. ltb p v) (itemThere scope w v) (every-map output (every-all outputRight xs e))
     where
       output : (x : Item) → outputRight x ≡ true → ltb (positionOf x) v ≡ itemThere scope w v x
-      output x h = let g : x .tag ≡ 12 = eqb-true (x .tag) 12 (and-left (isOutput x) _ h) in position-there scope w v x (omega arith) (omega arith)
+      output x h =
+          let g : x .tag ≡ 12 = eqb-true (x .tag) 12 (and-left (isOutput x) _ h) in
+          position-there scope w v x (omega arith) (omega arith)
 
   -- the one computation of a node
-  computation-alone : (eqb (length xs) 1 && all computationRight xs) ≡ true → computationThere scope w (computationIn xs) ≡ all (itemThere scope w v) xs
+  computation-alone : (eqb (length xs) 1 && all computationRight xs) ≡ true
+      → computationThere scope w (computationIn xs) ≡ all (itemThere scope w v) xs
   computation-alone e =
       by-one (λ ys. all computationRight ys ≡ true → computationThere scope w (computationIn ys) ≡ all (itemThere scope w v) ys)
-      (λ x h. computation-there scope w v x (and-left (isComputation x) _ (and-left (computationRight x) _ h)) ∙ sym (and-true (itemThere scope w v x))) xs
-      (eqb-true (length xs) 1 (and-left (eqb (length xs) 1) _ e)) (and-right (eqb (length xs) 1) _ e)
+      (λ x h. computation-there scope w v x (and-left (isComputation x) _ (and-left (computationRight x) _ h)) ∙ sym (and-true (itemThere scope w v x)))
+      xs (eqb-true (length xs) 1 (and-left (eqb (length xs) 1) _ e)) (and-right (eqb (length xs) 1) _ e)
 
-  -- an aggregate as an item of the second of two sorts
-  aggregate-second : (is first : Item → Bool) (x : Item) → is x ≡ false → aggregateRight x ≡ true → OfTwo is isAggregate (itemThere scope w v) first (λ y. aggregateThere v (aggregateOf y)) x
+  -- an item of one sort, or an aggregate
+  abbrev OrAggregate : (is first : Item → Bool) → Item → Type 0
+  OrAggregate is first x = OfTwo is isAggregate (itemThere scope w v) first (λ y. aggregateThere v (aggregateOf y)) x
+
+  aggregate-second : (is first : Item → Bool) (x : Item) → is x ≡ false → aggregateRight x ≡ true → OrAggregate is first x
   aggregate-second is first x n h =
       let c : isAggregate x ≡ true = and-left (isAggregate x) _ h in
       of-second n c (aggregate-there scope w v x c)
 
   -- keys, then aggregates
-  group-there : (m : ℕ) → inFront keyRight aggregateRight m xs ≡ true → (all (λ p. ltb p v) (keysIn xs) && all (aggregateThere v) (aggregatesIn xs)) ≡ all (itemThere scope w v) xs
-  group-there m e = sorts-all isKey isAggregate positionOf aggregateOf (λ p. ltb p v) (aggregateThere v) (itemThere scope w v) (front-every keyRight aggregateRight key (λ x h. aggregate-second isKey (λ y. ltb (positionOf y) v) x (aggregate-not-key x h) h) m xs e)
+  group-there : (m : ℕ) → inFront keyRight aggregateRight m xs ≡ true
+      → (all (λ p. ltb p v) (keysIn xs) && all (aggregateThere v) (aggregatesIn xs)) ≡ all (itemThere scope w v) xs
+  group-there m e =
+      sorts-all isKey isAggregate positionOf aggregateOf (λ p. ltb p v) (aggregateThere v) (itemThere scope w v)
+      (front-every keyRight aggregateRight key aggregate m xs e)
     where
-      key : (x : Item) → keyRight x ≡ true → OfTwo isKey isAggregate (itemThere scope w v) (λ y. ltb (positionOf y) v) (λ y. aggregateThere v (aggregateOf y)) x
+      aggregate : (x : Item) → aggregateRight x ≡ true → OrAggregate isKey (λ y. ltb (positionOf y) v) x
+      aggregate x h = aggregate-second isKey (λ y. ltb (positionOf y) v) x (aggregate-not-key x h) h
+
+      key : (x : Item) → keyRight x ≡ true → OrAggregate isKey (λ y. ltb (positionOf y) v) x
       key x h =
           let k : isKey x ≡ true = and-left (isKey x) _ h in
           let g : x .tag ≡ 11 = eqb-true (x .tag) 11 k in
           of-first k (key-not-aggregate x h) (position-there scope w v x (omega arith) (omega arith))
 
   -- conjuncts, then aggregates
-  groupjoin-there : (m : ℕ) → inFront conjunctRight aggregateRight m xs ≡ true → (all (conjunctThere scope w) (conjunctsIn xs) && all (aggregateThere v) (aggregatesIn xs)) ≡ all (itemThere scope w v) xs
-  groupjoin-there m e = sorts-all isConjunct isAggregate conjunctOf aggregateOf (conjunctThere scope w) (aggregateThere v) (itemThere scope w v) (front-every conjunctRight aggregateRight conjunct (λ x h. aggregate-second isConjunct (λ y. conjunctThere scope w (conjunctOf y)) x (aggregate-not-conjunct x h) h) m xs e)
+  groupjoin-there : (m : ℕ) → inFront conjunctRight aggregateRight m xs ≡ true
+      → (all (conjunctThere scope w) (conjunctsIn xs) && all (aggregateThere v) (aggregatesIn xs)) ≡ all (itemThere scope w v) xs
+  groupjoin-there m e =
+      sorts-all isConjunct isAggregate conjunctOf aggregateOf (conjunctThere scope w) (aggregateThere v) (itemThere scope w v)
+      (front-every conjunctRight aggregateRight conjunct aggregate m xs e)
     where
-      conjunct : (x : Item) → conjunctRight x ≡ true → OfTwo isConjunct isAggregate (itemThere scope w v) (λ y. conjunctThere scope w (conjunctOf y)) (λ y. aggregateThere v (aggregateOf y)) x
+      aggregate : (x : Item) → aggregateRight x ≡ true → OrAggregate isConjunct (λ y. conjunctThere scope w (conjunctOf y)) x
+      aggregate x h = aggregate-second isConjunct (λ y. conjunctThere scope w (conjunctOf y)) x (aggregate-not-conjunct x h) h
+
+      conjunct : (x : Item) → conjunctRight x ≡ true → OrAggregate isConjunct (λ y. conjunctThere scope w (conjunctOf y)) x
       conjunct x h =
           let k : isConjunct x ≡ true = and-left (isConjunct x) _ h in
           of-first k (conjunct-not-aggregate x h) (conjunct-there scope w v x k)
@@ -213,15 +238,20 @@ columns-for width scope l r k xs =
     (λ e. outputs-there scope (width l) (width l) xs (and-right (not (isEmpty xs)) _ e))
     (conjuncts-there scope (width l + width r) (width r) xs)
     (λ e. group-there scope (width l) (width l) xs (length (keep isKey xs)) (and-right (not (isEmpty xs)) _ e))
-    (λ e. groupjoin-there scope (width l + width r) (width r) xs (length (keep isConjunct xs)) (and-right (ltb (length (keep isConjunct xs)) (length xs)) _ e))
+    (λ e. groupjoin-there scope (width l + width r) (width r) xs (length (keep isConjunct xs))
+    (and-right (ltb (length (keep isConjunct xs)) (length xs)) _ e))
     (conjuncts-there scope (width l + width r) (width r) xs)
 
-module _ (ws : List ℕ) (f : Formed ws) (n : ℕ) (h : n < nodes ws) (o : ℕ) (e : o ≡ operator ws n) where
+module _ (ws : List ℕ) (f : Formed ws) (n : ℕ) (h : n < nodes ws) {o : ℕ} (e : o ≡ operator ws n) where
+  -- the items of node n, over rows of width w and a last input of width v
+  abbrev all-there : ℕ → ℕ → Bool
+  all-there w v = all (itemThere (scopeOf ws n) w v) (itemsOf ws n)
+
   -- the columns of node n by its words
   columns-at : columnsRight ws n
       ≡ cond (eqb (operator ws n) 1) true
-      (cond (hasRight (operator ws n)) (all (itemThere (scopeOf ws n) (widthAt ws (left ws n) + widthAt ws (right ws n)) (widthAt ws (right ws n))) (itemsOf ws n))
-      (all (itemThere (scopeOf ws n) (widthAt ws (left ws n)) (widthAt ws (left ws n))) (itemsOf ws n)))
+      (cond (hasRight (operator ws n)) (all-there (widthAt ws (left ws n) + widthAt ws (right ws n)) (widthAt ws (right ws n)))
+      (all-there (widthAt ws (left ws n)) (widthAt ws (left ws n))))
   unfolding columnsRight
   columns-at =
       let t = facts-at ws f n h in
@@ -231,18 +261,18 @@ module _ (ws : List ℕ) (f : Formed ws) (n : ℕ) (h : n < nodes ws) (o : ℕ) 
   pub columns-scan : o ≡ 1 → true ≡ columnsRight ws n
   columns-scan q = sym (columns-at ∙ rw (eq-eqb (operator ws n) 1 (sym e ∙ q)))
 
-  module _ (rows : List ℕ) (k : Widths ws rows) (q : o ≡ 1 → ⊥) (i w : ℕ) (d : i ≡ left ws n) (t : w ≡ i) (r : Bool) where
+  module _ (rows : List ℕ) (k : Widths ws rows) (q : o ≡ 1 → ⊥) {i w : ℕ} (d : i ≡ left ws n) (t : w ≡ i) where
     -- the table has the width of the left input
     left-width : getD rows w 0 ≡ widthAt ws (left ws n)
     left-width = rw (t, d) (k (left ws n) (omega (arith, left-below ws f n h e q d t)))
 
     -- a node with one input
-    pub columns-one : hasRight o ≡ false → r ≡ all (itemThere (scopeOf ws n) (getD rows w 0) (getD rows w 0)) (itemsOf ws n) → r ≡ columnsRight ws n
+    pub columns-one : hasRight o ≡ false → {r : Bool} → r ≡ all-there (getD rows w 0) (getD rows w 0) → r ≡ columnsRight ws n
     columns-one s a = a ∙ rw left-width (sym (columns-at ∙ rw (sym e, ne-eqb o 1 q, s)))
 
     -- a node with two inputs
-    pub columns-two : (j v : ℕ) → j ≡ right ws n → v ≡ j → hasRight o ≡ true
-        → r ≡ all (itemThere (scopeOf ws n) (getD rows w 0 + getD rows v 0) (getD rows v 0)) (itemsOf ws n) → r ≡ columnsRight ws n
-    columns-two j v c z s a =
+    pub columns-two : {j v : ℕ} → j ≡ right ws n → v ≡ j → hasRight o ≡ true
+        → {r : Bool} → r ≡ all-there (getD rows w 0 + getD rows v 0) (getD rows v 0) → r ≡ columnsRight ws n
+    columns-two {j} {v} c z s a =
         let x : getD rows v 0 ≡ widthAt ws (right ws n) = rw (z, c) (k (right ws n) (omega (arith, right-below ws f n h e s c z))) in
         a ∙ rw (left-width, x) (sym (columns-at ∙ rw (sym e, ne-eqb o 1 q, s)))

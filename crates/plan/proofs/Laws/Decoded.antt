@@ -7,11 +7,13 @@ use native.Mathlib.Omega.{arith}
 use lib.IntN.{ℤ, pos, negsuc}
 use Rattle.algebra.specs.Lists.{keep, each, Every, done, more}
 use Rattle.algebra.specs.Value.{Test, equal, unequal, less, at-most, at-least, same}
-use Rattle.algebra.specs.Plan.{Term, column, outer, constant, nothing, Conjunct, Computation, copy, add, subtract, Aggregate, count, sum, minimum, maximum, Kind, inner, semi, anti, left-outer, Node, scan, select, compute, project, join, group, groupjoin, dependent}
+use Rattle.algebra.specs.Plan.{Term, column, outer, constant, nothing, Conjunct, Computation, copy, add, subtract, Aggregate, count, sum, minimum, maximum}
+use Rattle.algebra.specs.Plan.{Kind, inner, semi, anti, left-outer, Node, scan, select, compute, project, join, group, groupjoin, dependent}
 use Rattle.algebra.proofs.Lists.Every.{every-of, every-map, every-mapped, every-uneach}
 use Rattle.algebra.proofs.Lists.Keep.{keep-all, map-map, map-id}
 use Rattle.plan.specs.Words.{Item}
-use Rattle.plan.specs.Items.{between, isConjunct, isKey, isAggregate, signed, termOf, testOf, conjunctOf, computationOf, positionOf, aggregateOf, conjunctsIn, aggregateRight}
+use Rattle.plan.specs.Items.{between, isConjunct, isKey, isAggregate, signed, termOf, testOf}
+use Rattle.plan.specs.Items.{conjunctOf, computationOf, positionOf, aggregateOf, conjunctsIn, aggregateRight}
 use Rattle.plan.specs.Plan.{kindOf, nodeFor}
 use Rattle.plan.specs.Encoding.{unsigned, testTag, kindWord, parts, StorableTerm, conjunctTerms, computationTerms, termsOf}
 use Rattle.plan.proofs.Laws.Loops.{keep-first, keep-second}
@@ -130,7 +132,8 @@ aggregates-read : (gs : List Aggregate) → map aggregateOf (map aggregateItem g
 aggregates-read gs = map-map aggregateOf aggregateItem gs ∙ map-id (λ g. aggregateOf (aggregateItem g)) (every-of aggregate-back gs)
 
 -- a node is read as it was written
-pub node-back : (n : Node) → Every StorableTerm (termsOf n) → nodeFor (parts n .operator) (parts n .left) (parts n .right) (kindOf (parts n .kind)) (nodeItems n) ≡ n
+pub node-back : (n : Node) → Every StorableTerm (termsOf n)
+    → nodeFor (parts n .operator) (parts n .left) (parts n .right) (kindOf (parts n .kind)) (nodeItems n) ≡ n
 unfolding nodeFor
 node-back (scan t) h = refl
 node-back (select cs i) h = rw (conjuncts-back cs h)

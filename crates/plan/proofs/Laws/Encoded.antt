@@ -11,7 +11,8 @@ use Rattle.algebra.specs.Lists.{each, upto}
 use Rattle.algebra.specs.Plan.{Node}
 use Rattle.algebra.proofs.Lists.Every.{every-of}
 use Rattle.algebra.proofs.Lists.Keep.{map-map, map-id}
-use Rattle.plan.specs.Words.{Item, word, tables, nodes, items, tableWidth, nodeWord, operator, left, right, kind, firstItem, itemCount, itemWord, itemAt, itemsOf}
+use Rattle.plan.specs.Words.{Item, word, tables, nodes, items, tableWidth, nodeWord, operator}
+use Rattle.plan.specs.Words.{left, right, kind, firstItem, itemCount, itemWord, itemAt, itemsOf}
 use Rattle.plan.specs.Verdict.{headerRight}
 use Rattle.plan.specs.Encoding.{parts, nodeWords, allItems, wordsOf}
 use Rattle.plan.proofs.Laws.Header.{header-last}
@@ -67,7 +68,8 @@ module _ (widths : List ℕ) (ns : List Node) where
   item-word-of j k h =
       let rest : List ℕ = each (λ w. w) (allItems ns) in
       let i : ℕ = length (nodeWords 0 ns) + (7 * j + k) in
-      let p : 8 + tables (wordsOf widths ns) + 6 * nodes (wordsOf widths ns) + 7 * j + k ≡ 8 + (length widths + i) = omega (arith, tables-of widths ns, nodes-of widths ns, words-length 0 ns) in
+      let p : 8 + tables (wordsOf widths ns) + 6 * nodes (wordsOf widths ns) + 7 * j + k ≡ 8 + (length widths + i) =
+      omega (arith, tables-of widths ns, nodes-of widths ns, words-length 0 ns) in
       ap (word (wordsOf widths ns)) p
       ∙ behind (length widths + i)
       ∙ getD-append-add widths (nodeWords 0 ns ++ rest) i 0

@@ -31,11 +31,15 @@ constant-fits x h = go (ltb x (2 ^ 31)) refl
 
 term-fits : (t : Three) → t .value < 2 ^ 32 → StorableTerm (termOf t)
 unfolding termOf
-term-fits t h = either StorableTerm (eqb (t .code) 0) tt (either StorableTerm (eqb (t .code) 1) tt (either StorableTerm (eqb (t .code) 2) (constant-fits (t .value) h) tt))
+term-fits t h =
+    either StorableTerm (eqb (t .code) 0) tt
+    (either StorableTerm (eqb (t .code) 1) tt (either StorableTerm (eqb (t .code) 2) (constant-fits (t .value) h) tt))
 
 conjuncts-fit : {xs : List Item} → Every Narrow xs → Every StorableTerm (each conjunctTerms (conjunctsIn xs))
 conjuncts-fit h =
-    every-each conjunctTerms (every-mapped conjunctOf (every-map (λ x g. more (term-fits (x .first) (g .0)) (more (term-fits (x .second) (g .1)) done)) (every-keep isConjunct h)))
+    every-each conjunctTerms
+    (every-mapped conjunctOf
+    (every-map (λ x g. more (term-fits (x .first) (g .0)) (more (term-fits (x .second) (g .1)) done)) (every-keep isConjunct h)))
 
 -- every term of a computation can be written
 Fits : Computation → Type 0

@@ -61,7 +61,8 @@ by-operator P p1 p2 p3 p4 p5 p6 p7 p8 (suc (suc (suc (suc (suc (suc (suc (suc (s
 
 -- the tests of a right node
 pub node-tests : (ws : List ℕ) (n : ℕ) → nodeRight ws n ≡ true
-    → (between 1 8 (operator ws n) ≡ true) × (inputsRight ws n ≡ true) × (kindRight ws n ≡ true) × (countRight ws n ≡ true) × (itemsRight (operator ws n) (itemsOf ws n) ≡ true)
+    → (between 1 8 (operator ws n) ≡ true) × (inputsRight ws n ≡ true) × (kindRight ws n ≡ true) × (countRight ws n ≡ true)
+    × (itemsRight (operator ws n) (itemsOf ws n) ≡ true)
 unfolding nodeRight
 node-tests ws n e =
     let a = both (between 1 8 (operator ws n)) _ e in
@@ -78,7 +79,8 @@ count-says ws n e =
     let f : firstItem ws n ≡ itemsBefore ws n = eqb-true _ _ (h .0) in
     (f, rw f (ends (eqb (n + 1) (nodes ws)) (h .1)))
   where
-    ends : (b : Bool) → cond b (eqb (itemsBefore ws n + itemCount ws n) (items ws)) (leb (itemsBefore ws n + itemCount ws n) (items ws)) ≡ true → itemsBefore ws n + itemCount ws n ≤ items ws
+    ends : (b : Bool) → cond b (eqb (itemsBefore ws n + itemCount ws n) (items ws)) (leb (itemsBefore ws n + itemCount ws n) (items ws)) ≡ true
+        → itemsBefore ws n + itemCount ws n ≤ items ws
     ends true h = omega (arith, eqb-true (itemsBefore ws n + itemCount ws n) (items ws) h)
     ends false h = leb-true _ _ h
 
@@ -148,11 +150,13 @@ module _ (ws : List ℕ) (f : Formed ws) (n : ℕ) (h : n < nodes ws) where
   pub inputs-below : Every (λ j. j < n) (inputs (nodeAt ws n))
   inputs-below = rw inputs-at (scanned (eqb (operator ws n) 1) refl)
     where
-      paired : (eqb (operator ws n) 1 ≡ false) → (b : Bool) → hasRight (operator ws n) ≡ b → Every (λ j. j < n) (cond b (left ws n ∷ right ws n ∷ []) (left ws n ∷ []))
+      paired : (eqb (operator ws n) 1 ≡ false) → (b : Bool) → hasRight (operator ws n) ≡ b
+          → Every (λ j. j < n) (cond b (left ws n ∷ right ws n ∷ []) (left ws n ∷ []))
       paired e true t = more (facts-at .left-node (eqb-false _ _ e)) (more (facts-at .right-node t) done)
       paired e false t = more (facts-at .left-node (eqb-false _ _ e)) done
 
-      scanned : (b : Bool) → eqb (operator ws n) 1 ≡ b → Every (λ j. j < n) (cond b [] (cond (hasRight (operator ws n)) (left ws n ∷ right ws n ∷ []) (left ws n ∷ [])))
+      scanned : (b : Bool) → eqb (operator ws n) 1 ≡ b
+          → Every (λ j. j < n) (cond b [] (cond (hasRight (operator ws n)) (left ws n ∷ right ws n ∷ []) (left ws n ∷ [])))
       scanned true e = done
       scanned false e = paired e (hasRight (operator ws n)) refl
 

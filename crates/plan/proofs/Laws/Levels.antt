@@ -24,29 +24,31 @@ pub record Climbed (ws : List ℕ) (n level at l : ℕ) : Type 0 where
 
 module _ (ws joins : List ℕ) (is : Joins ws joins) (inside : InPlan ws joins) (n level : ℕ) where
   -- from the node's own join
-  pub climb-start : (w : ℕ) → n < nodes ws → w ≡ n → Climbed ws n level (getD joins w 0) level
+  pub climb-start : n < nodes ws → {w : ℕ} → w ≡ n → Climbed ws n level (getD joins w 0) level
   unfolding rowsFrom
-  climb-start w h e = rw e (record { same = ap (λ (k : List ℕ). getD k level 0) (is n h); join = inside n h })
+  climb-start h e = rw e (record { same = ap (λ (k : List ℕ). getD k level 0) (is n h); join = inside n h })
 
   -- to the next join, one level less
-  pub climb-next : (at l w : ℕ) → Climbed ws n level at l → at < 256 → 0 < l → w ≡ at → Climbed ws n level (getD joins w 0) (l - 1)
+  pub climb-next : {at l : ℕ} → Climbed ws n level at l → at < 256 → 0 < l → {w : ℕ} → w ≡ at → Climbed ws n level (getD joins w 0) (l - 1)
   unfolding rowsFrom
-  climb-next at l w c h g e =
+  climb-next {at} {l} c h g e =
       let d : l ≡ suc (l - 1) = omega arith in
       let m : at < nodes ws = c .join h .0 in
       rw e
       (record {
-        same = c .same ∙ rw (lt-ltb at 256 h) (ap (λ (k : ℕ). getD (widthAt ws (left ws at) ∷ scopeOf ws at) k 0) d ∙ ap (λ (k : List ℕ). getD k (l - 1) 0) (is at m));
+        same = c .same
+            ∙ rw (lt-ltb at 256 h)
+            (ap (λ (k : ℕ). getD (widthAt ws (left ws at) ∷ scopeOf ws at) k 0) d ∙ ap (λ (k : List ℕ). getD k (l - 1) 0) (is at m));
         join = inside at m;
       })
 
-module _ (ws : List ℕ) (n level at l : ℕ) (c : Climbed ws n level at l) where
+module _ {ws : List ℕ} {n level at l : ℕ} (c : Climbed ws n level at l) where
   -- past the last join there is no row
   pub climb-none : 256 ≤ at → 0 ≡ getD (scopeOf ws n) level 0
   unfolding rowsFrom
   climb-none h = sym (c .same ∙ rw (le-ltb at 256 h))
 
-  module _ (f : Formed ws) (h : at < 256) (i w : ℕ) (e : i ≡ left ws at) (d : w ≡ i) where
+  module _ (f : Formed ws) (h : at < 256) {i w : ℕ} (e : i ≡ left ws at) (d : w ≡ i) where
     -- the left input of a join is below it
     join-left : left ws at < at
     join-left = facts-at ws f at (c .join h .0) .left-node (λ q. omega (arith, c .join h .1))

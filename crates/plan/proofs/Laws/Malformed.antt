@@ -7,7 +7,7 @@ use Prim.Native.Nat.{ℕ, _+_, _≤_, _<_}
 use native.Mathlib.Omega.{arith}
 use native.Mathlib.Numerals.{add-one}
 use lib.Dec.{leb, ltb, eqb}
-use borrow.Author.Tests.{not-true, not-false, eqb-false, lt-ltb, le-ltb, le-leb, lt-leb, eq-eqb, ne-eqb}
+use borrow.Author.Tests.{not-false, eqb-false, lt-ltb, le-ltb, le-leb, lt-leb, eq-eqb, ne-eqb}
 use Rattle.plan.specs.Words.{tables, nodes, items, operator, left, right, kind, firstItem, itemCount, itemsOf}
 use Rattle.plan.specs.Verdict.{hasRight, hasKind, itemsRight, itemsBefore, inputsRight, kindRight, countRight, nodeRight}
 use Rattle.plan.proofs.Laws.Formed.{count-says, node-facts}
@@ -90,16 +90,19 @@ module _ (ws : List ℕ) (n : ℕ) {f b : ℕ} (is-first : f ≡ firstItem ws n)
   unfolding countRight
   first-wrong e = rw (← is-first, ← is-before, ne-eqb f b e)
 
-  module _ (e : f ≡ b) {m w v k a i : ℕ} (is-nodes : m ≡ nodes ws) (is-wide : w ≡ b) (is-wide-count : v ≡ k) (is-count : k ≡ itemCount ws n) (is-all : a ≡ i) (is-items : i ≡ items ws) where
+  module _ (e : f ≡ b) {m w v k a i : ℕ} (is-nodes : m ≡ nodes ws) (is-wide : w ≡ b) (is-wide-count : v ≡ k) (is-count : k ≡ itemCount ws n)
+      (is-all : a ≡ i) (is-items : i ≡ items ws) where
     -- the items of the root end where all do
     pub root-count : n + 1 ≡ m → eqb (w + v) a ≡ countRight ws n
     unfolding countRight
-    root-count h = rw (← is-first, ← is-before, ← is-nodes, ← is-count, ← is-items, eq-eqb f b e, eq-eqb (n + 1) m h, ← is-wide, ← is-wide-count, ← is-all)
+    root-count h =
+        rw (← is-first, ← is-before, ← is-nodes, ← is-count, ← is-items, eq-eqb f b e, eq-eqb (n + 1) m h, ← is-wide, ← is-wide-count, ← is-all)
 
     -- the items of another node end no later
     pub node-count : (n + 1 ≡ m → ⊥) → leb (w + v) a ≡ countRight ws n
     unfolding countRight
-    node-count h = rw (← is-first, ← is-before, ← is-nodes, ← is-count, ← is-items, eq-eqb f b e, ne-eqb (n + 1) m h, ← is-wide, ← is-wide-count, ← is-all)
+    node-count h =
+        rw (← is-first, ← is-before, ← is-nodes, ← is-count, ← is-items, eq-eqb f b e, ne-eqb (n + 1) m h, ← is-wide, ← is-wide-count, ← is-all)
 
 -- what a right count says
 pub count-within : (ws : List ℕ) (n : ℕ) {b : Bool} → b ≡ countRight ws n → not b ≡ false → firstItem ws n + itemCount ws n ≤ items ws
@@ -107,36 +110,36 @@ count-within ws n {b} says e = count-says ws n (sym says ∙ not-false b e) .1
 
 -- ---- a node
 
-module _ (ws : List ℕ) (n : ℕ) {o : ℕ} (is-operator : o ≡ operator ws n) where
+module _ (ws : List ℕ) (n : ℕ) where
   -- the operator is 0
-  pub operator-low : o < 1 → false ≡ nodeRight ws n
+  pub operator-low : operator ws n < 1 → false ≡ nodeRight ws n
   unfolding nodeRight
-  operator-low h = rw (← is-operator, lt-leb 1 o h)
+  operator-low h = rw (lt-leb 1 (operator ws n) h)
 
   -- the operator is above 8
-  pub operator-high : 1 ≤ o → 8 < o → false ≡ nodeRight ws n
+  pub operator-high : 1 ≤ operator ws n → 8 < operator ws n → false ≡ nodeRight ws n
   unfolding nodeRight
-  operator-high l h = rw (← is-operator, le-leb 1 o l, lt-leb o 8 h)
+  operator-high l h = rw (le-leb 1 (operator ws n) l, lt-leb (operator ws n) 8 h)
 
-  module _ (low : 1 ≤ o) (high : o ≤ 8) {inputs : Bool} (says-inputs : inputs ≡ inputsRight ws n) where
-    pub inputs-wrong : not inputs ≡ true → false ≡ nodeRight ws n
+  module _ (range : (1 ≤ operator ws n) × (operator ws n ≤ 8)) where
+    pub inputs-wrong : inputsRight ws n ≡ false → false ≡ nodeRight ws n
     unfolding nodeRight
-    inputs-wrong e = rw (← is-operator, le-leb 1 o low, le-leb o 8 high, sym says-inputs ∙ not-true inputs e)
+    inputs-wrong e = rw (le-leb 1 (operator ws n) (range .0), le-leb (operator ws n) 8 (range .1), e)
 
-    module _ (inputs-fine : not inputs ≡ false) {kinds : Bool} (says-kind : kinds ≡ kindRight ws n) where
-      pub kind-wrong : not kinds ≡ true → false ≡ nodeRight ws n
+    module _ (inputs-fine : inputsRight ws n ≡ true) where
+      pub kind-wrong : kindRight ws n ≡ false → false ≡ nodeRight ws n
       unfolding nodeRight
-      kind-wrong e = rw (← is-operator, le-leb 1 o low, le-leb o 8 high, sym says-inputs ∙ not-false inputs inputs-fine, sym says-kind ∙ not-true kinds e)
+      kind-wrong e = rw (le-leb 1 (operator ws n) (range .0), le-leb (operator ws n) 8 (range .1), inputs-fine, e)
 
-      module _ (kind-fine : not kinds ≡ false) {counts : Bool} (says-count : counts ≡ countRight ws n) where
-        pub count-wrong : not counts ≡ true → false ≡ nodeRight ws n
+      module _ (kind-fine : kindRight ws n ≡ true) where
+        pub count-wrong : countRight ws n ≡ false → false ≡ nodeRight ws n
         unfolding nodeRight
-        count-wrong e = rw (← is-operator, le-leb 1 o low, le-leb o 8 high, sym says-inputs ∙ not-false inputs inputs-fine, sym says-kind ∙ not-false kinds kind-fine, sym says-count ∙ not-true counts e)
+        count-wrong e = rw (le-leb 1 (operator ws n) (range .0), le-leb (operator ws n) 8 (range .1), inputs-fine, kind-fine, e)
 
         -- all other tests pass, and the items decide
-        pub items-decide : not counts ≡ false → {sorts : Bool} → sorts ≡ itemsRight (operator ws n) (itemsOf ws n) → sorts ≡ nodeRight ws n
+        pub items-decide : countRight ws n ≡ true → itemsRight (operator ws n) (itemsOf ws n) ≡ nodeRight ws n
         unfolding nodeRight
-        items-decide e says-items = says-items ∙ rw (sym says-inputs ∙ not-false inputs inputs-fine, sym says-kind ∙ not-false kinds kind-fine, sym says-count ∙ not-false counts e, ← is-operator, le-leb 1 o low, le-leb o 8 high)
+        items-decide e = rw (inputs-fine, kind-fine, e, le-leb 1 (operator ws n) (range .0), le-leb (operator ws n) 8 (range .1))
 
 -- ---- the items of the nodes before
 
@@ -151,7 +154,8 @@ unfolding itemsBefore
 before-more ws n is-before is-count = rw (add-one n, is-before, is-count)
 
 -- the items of a right node stay within the table
-pub before-within : (ws : List ℕ) (n : ℕ) {b : Bool} → b ≡ nodeRight ws n → not b ≡ false → {before k : ℕ} → before ≡ itemsBefore ws n → k ≡ itemCount ws n → before + k ≤ items ws
+pub before-within : (ws : List ℕ) (n : ℕ) {b : Bool} → b ≡ nodeRight ws n → not b ≡ false
+    → {before k : ℕ} → before ≡ itemsBefore ws n → k ≡ itemCount ws n → before + k ≤ items ws
 before-within ws n {b} says e is-before is-count =
     let f = node-facts ws n (sym says ∙ not-false b e) in
     omega (arith, f .first, f .within)

@@ -9,7 +9,8 @@ use lib.ListN.{length, getD, take, drop, take-append-drop, length-append, length
 use lib.Seq.{take-suc, take-length}
 use borrow.Author.Tests.{lt-ltb, le-leb, eq-eqb, ne-eqb, eqb-true}
 use Rattle.algebra.specs.Lists.{keep, all, isEmpty, each, upto, Every, done, more}
-use Rattle.algebra.specs.Plan.{Term, column, outer, constant, nothing, Conjunct, Computation, copy, add, subtract, Aggregate, Kind, inner, semi, anti, left-outer, Node, scan, select, compute, project, join, group, groupjoin, dependent}
+use Rattle.algebra.specs.Plan.{Term, column, outer, constant, nothing, Conjunct, Computation, copy, add, subtract, Aggregate, Kind, inner}
+use Rattle.algebra.specs.Plan.{semi, anti, left-outer, Node, scan, select, compute, project, join, group, groupjoin, dependent}
 use Rattle.algebra.proofs.Lists.Every.{every-of, every-map, every-mapped, every-uneach, every-at}
 use Rattle.algebra.proofs.Lists.Keep.{each-append}
 use Rattle.algebra.proofs.Lists.Same.{and-both}
@@ -140,11 +141,13 @@ items-meet T n (group ks gs i) h e =
     let m : length (keep isKey (xs ++ ys)) ≡ length xs = ap length (keep-front (positionItem 11) aggregateItem isKey ks gs (λ p. refl) aggregate-not-key) in
     and-both _ _
     (not-empty (xs ++ ys) (omega (arith, length-append xs ys, length-map ks (positionItem 11), length-map gs aggregateItem)))
-    (in-front keyRight aggregateRight (length (keep isKey (xs ++ ys))) xs ys (sym m) (all-of keyRight (every-mapped (positionItem 11) (every-of (λ p. refl) ks))) (aggregates-meet gs))
+    (in-front keyRight aggregateRight (length (keep isKey (xs ++ ys))) xs ys (sym m)
+    (all-of keyRight (every-mapped (positionItem 11) (every-of (λ p. refl) ks))) (aggregates-meet gs))
 items-meet T n (groupjoin cs gs l r) h e =
     let xs : List Item = map conjunctItem cs in
     let ys : List Item = map aggregateItem gs in
-    let m : length (keep isConjunct (xs ++ ys)) ≡ length xs = ap length (keep-front conjunctItem aggregateItem isConjunct cs gs (λ c. tag-low (c .test)) aggregate-not-conjunct) in
+    let m : length (keep isConjunct (xs ++ ys)) ≡ length xs =
+    ap length (keep-front conjunctItem aggregateItem isConjunct cs gs (λ c. tag-low (c .test)) aggregate-not-conjunct) in
     and-both _ _
     (lt-ltb (length (keep isConjunct (xs ++ ys))) (length (xs ++ ys)) (omega (arith, length-append xs ys, length-map gs aggregateItem)))
     (in-front conjunctRight aggregateRight (length (keep isConjunct (xs ++ ys))) xs ys (sym m) (conjuncts-meet cs e) (aggregates-meet gs))
@@ -186,11 +189,13 @@ module _ (widths : List ℕ) (ns : List Node) (d : Node) where
       go : (b : Bool) → eqb (n + 1) (nodes ws) ≡ b → cond b (eqb total (items ws)) (leb total (items ws)) ≡ true
       go true e =
           let m : suc n ≡ length ns = omega (arith, eqb-true (n + 1) (nodes ws) e, encoded.nodes-of widths ns) in
-          eq-eqb total (items ws) (before-of (suc n) h ∙ ap (λ (l : List Node). length (allItems l)) (ap (λ (k : ℕ). take k ns) m ∙ take-length ns) ∙ sym (encoded.items-of widths ns))
+          eq-eqb total (items ws)
+          (before-of (suc n) h ∙ ap (λ (l : List Node). length (allItems l)) (ap (λ (k : ℕ). take k ns) m ∙ take-length ns) ∙ sym (encoded.items-of widths ns))
       go false e = le-leb total (items ws) (omega (arith, before-of (suc n) h, ends (suc n) h, encoded.items-of widths ns))
 
   -- a node that stands where it may, with levels up to 7, passes
-  pub node-right : (n : ℕ) → n < length ns → Placed (length widths) n (getD ns n d) → Every Levelled (termsOf (getD ns n d)) → nodeRight (wordsOf widths ns) n ≡ true
+  pub node-right : (n : ℕ) → n < length ns → Placed (length widths) n (getD ns n d) → Every Levelled (termsOf (getD ns n d))
+      → nodeRight (wordsOf widths ns) n ≡ true
   unfolding nodeRight inputsRight kindRight
   node-right n h p e =
       let x : Node = getD ns n d in
@@ -243,7 +248,8 @@ module _ (widths : List ℕ) (ns : List Node) (w : Writable widths ns) where
       record {
         sized = record {
           header = encoded.header-right widths ns;
-          limits = sym (limits-last ws (rw t (w .tables-some)) (rw t (w .tables-few)) (rw m (w .nodes-some)) (rw m (w .nodes-few)) (rw i (w .items-few)) (tables ws) refl true widths-right);
+          limits = sym (limits-last ws (rw t (w .tables-some)) (rw t (w .tables-few)) (rw m (w .nodes-some)) (rw m (w .nodes-few))
+              (rw i (w .items-few)) (tables ws) refl true widths-right);
         };
         formed = λ n h. let l : n < length ns = rw m at h in node-right widths ns (scan 0) n l (w .placed n l) (every-at (scan 0) done (w .levelled) n);
       }

@@ -7,7 +7,7 @@ use native.Mathlib.Omega.{arith}
 use native.Mathlib.Numerals.{add-one}
 use lib.Dec.{leb, ltb, eqb}
 use lib.ListN.{length, getD, take, drop, take-append-drop}
-use borrow.Author.Tests.{leb-true, eqb-true, eqb-false, eq-eqb, ne-eqb, lt-ltb, le-ltb, not-true, not-false}
+use borrow.Author.Tests.{leb-true, eqb-true, eqb-false, eq-eqb, ne-eqb, lt-ltb, le-ltb, not-false}
 use Rattle.algebra.specs.Lists.{keep, all, each, isEmpty, upto, Every, done, more}
 use Rattle.algebra.specs.Plan.{Term, copy, add, subtract, Kind}
 use Rattle.algebra.specs.Columns.{Column, termReads, conjunctReads, computationReads, pastOne, past, readsOf, Shape, shapeAt}
@@ -16,14 +16,15 @@ use Rattle.algebra.proofs.Lists.Same.{and-left, and-right}
 use Rattle.algebra.proofs.Lists.Every.{every-map, every-append, every-unmapped}
 use Rattle.algebra.proofs.Domains.Keys.{upto-all}
 use Rattle.plan.specs.Words.{Three, Item, nodes, operator, left, right, kind, firstItem, itemCount, itemWord, itemAt, itemsFrom, itemsOf}
-use Rattle.plan.specs.Items.{termOf, conjunctOf, computationOf, isConjunct, isComputation, isKey, isOutput, isAggregate, conjunctsIn, termRight, isLocal, isUnused, conjunctRight, computationRight, keyRight, outputRight, aggregateRight}
+use Rattle.plan.specs.Items.{termOf, conjunctOf, computationOf, isConjunct, isComputation, isKey, isOutput, isAggregate}
+use Rattle.plan.specs.Items.{conjunctsIn, termRight, isLocal, isUnused, conjunctRight, computationRight, keyRight, outputRight, aggregateRight}
 use Rattle.plan.specs.Plan.{computationIn, nodeFor, kindOf, widthsOf, nodesOf}
 use Rattle.plan.specs.Verdict.{usesOf, isOpenTwice, hasRight, inFront, itemsRight}
 use Rattle.plan.specs.Promise.{Sized, Formed}
 use Rattle.plan.specs.Passes.{Counted, Reaches, reach, termReach, itemsReach, nodeReach}
 use Rattle.plan.proofs.Laws.Loops.{empty-nil, by-one}
 use Rattle.plan.proofs.Laws.Numbered.{every-all}
-use Rattle.plan.proofs.Laws.Formed.{by-operator, facts-at, limited, left-below, right-below, right-read, shape-of}
+use Rattle.plan.proofs.Laws.Formed.{by-operator, facts-at, limited, left-below, right-below, shape-of}
 
 -- ---- terms and items as the code reads them
 
@@ -45,7 +46,8 @@ items-snoc [] x = omega arith
 items-snoc (y ∷ xs) x = omega (arith, items-snoc xs x)
 
 -- one item more
-pub reach-more : (f : ℕ → Item) (i : ℕ) {r a b u v : ℕ} → r ≡ itemsReach (map f (upto i)) → a ≡ termReach (f i .first) → b ≡ termReach (f i .second) → u ≡ max a b → v ≡ max r u
+pub reach-more : (f : ℕ → Item) (i : ℕ) {r a b u v : ℕ} → r ≡ itemsReach (map f (upto i))
+    → a ≡ termReach (f i .first) → b ≡ termReach (f i .second) → u ≡ max a b → v ≡ max r u
     → v ≡ itemsReach (map f (upto (i + 1)))
 reach-more f i {r} {a} {b} {u} {v} e g h q t = rw (add-one i, map-append f (upto i) (i ∷ []), items-snoc (map f (upto i)) (f i)) (omega arith)
 
@@ -60,7 +62,9 @@ module _ {A : Type 0} {P : A → Type 0} where
 pub front-every : {P : Item → Type 0} (p q : Item → Bool) → ((x : Item) → p x ≡ true → P x) → ((x : Item) → q x ≡ true → P x) → (m : ℕ) (xs : List Item)
     → inFront p q m xs ≡ true → Every P xs
 front-every p q f g m xs e =
-    rw take-append-drop at (every-append (all-every p f (take m xs) (and-left (all p (take m xs)) (all q (drop m xs)) e)) (all-every q g (drop m xs) (and-right (all p (take m xs)) (all q (drop m xs)) e)))
+    let first = all-every p f (take m xs) (and-left (all p (take m xs)) (all q (drop m xs)) e) in
+    let others = all-every q g (drop m xs) (and-right (all p (take m xs)) (all q (drop m xs)) e) in
+    rw take-append-drop at (every-append first others)
 
 -- a property of each sort is one of the items of every operator
 pub items-every : {P : Item → Type 0} → ((x : Item) → conjunctRight x ≡ true → P x) → ((x : Item) → computationRight x ≡ true → P x)
@@ -75,7 +79,8 @@ items-every {P} conjunct computation key output aggregate xs =
     (λ e. all-every outputRight output xs (and-right (not (isEmpty xs)) _ e))
     (all-every conjunctRight conjunct xs)
     (λ e. front-every keyRight aggregateRight key aggregate (length (keep isKey xs)) xs (and-right (not (isEmpty xs)) _ e))
-    (λ e. front-every conjunctRight aggregateRight conjunct aggregate (length (keep isConjunct xs)) xs (and-right (ltb (length (keep isConjunct xs)) (length xs)) _ e))
+    (λ e. front-every conjunctRight aggregateRight conjunct aggregate (length (keep isConjunct xs)) xs
+    (and-right (ltb (length (keep isConjunct xs)) (length xs)) _ e))
     (all-every conjunctRight conjunct xs)
 
 -- ---- the terms of well-formed items
@@ -114,7 +119,8 @@ three-reach : (t : Three) → reach (termReads (termOf t)) ≡ termReach t
 unfolding termOf
 three-reach t = go (eqb (t .code) 1) refl
   where
-    plain : (a b : Bool) (u v w : Term) → reach (termReads u) ≡ 0 → reach (termReads v) ≡ 0 → reach (termReads w) ≡ 0 → reach (termReads (cond a u (cond b v w))) ≡ 0
+    plain : (a b : Bool) (u v w : Term) → reach (termReads u) ≡ 0 → reach (termReads v) ≡ 0 → reach (termReads w) ≡ 0
+        → reach (termReads (cond a u (cond b v w))) ≡ 0
     plain true b u v w e g h = e
     plain false true u v w e g h = g
     plain false false u v w e g h = h
@@ -198,7 +204,8 @@ unfolding computationOf
 computation-reach x e = go (eqb (x .tag) 8) (eqb (x .tag) 9) (and-right (termRight (x .first)) _ (and-right (isComputation x) _ e))
   where
     go : (a b : Bool) → cond a (isUnused (x .second)) (termRight (x .second)) ≡ true
-        → reach (computationReads (cond a (copy (termOf (x .first))) (cond b (add (termOf (x .first)) (termOf (x .second))) (subtract (termOf (x .first)) (termOf (x .second)))))) ≡ itemReach x
+        → (let p = termOf (x .first) in let q = termOf (x .second) in reach (computationReads (cond a (copy p) (cond b (add p q) (subtract p q)))))
+        ≡ itemReach x
     go true b h = omega (arith, three-reach (x .first), local-reach (x .second) (unused-local (x .second) h))
     go false true h = two-reach (x .first) (x .second)
     go false false h = two-reach (x .first) (x .second)
@@ -206,7 +213,8 @@ computation-reach x e = go (eqb (x .tag) 8) (eqb (x .tag) 9) (and-right (termRig
 -- the one computation of a node
 compute-reach : (xs : List Item) → length xs ≡ 1 → all computationRight xs ≡ true → reach (computationReads (computationIn xs)) ≡ itemsReach xs
 compute-reach =
-    by-one (λ xs. all computationRight xs ≡ true → reach (computationReads (computationIn xs)) ≡ itemsReach xs) (λ x e. omega (arith, computation-reach x (and-left (computationRight x) true e)))
+    by-one (λ xs. all computationRight xs ≡ true → reach (computationReads (computationIn xs)) ≡ itemsReach xs)
+    (λ x e. omega (arith, computation-reach x (and-left (computationRight x) true e)))
 
 -- the reach of a node with operator o whose items reach own, from those of its inputs
 abbrev pub reachBy : ℕ → ℕ → ℕ → ℕ → ℕ
@@ -214,17 +222,24 @@ reachBy o own l r = cond (eqb o 1) own (cond (hasRight o) (max (max own l) (cond
 
 module _ (at : ℕ → List Column) (l r : ℕ) (k : Kind) (xs : List Item) where
   -- what a node reads, by operator
-  node-reads : (o : ℕ) → 1 ≤ o → o ≤ 8 → itemsRight o xs ≡ true → reach (readsOf at (nodeFor o l r k xs)) ≡ reachBy o (itemsReach xs) (reach (at l)) (reach (at r))
+  node-reads : (o : ℕ) → 1 ≤ o → o ≤ 8 → itemsRight o xs ≡ true
+      → reach (readsOf at (nodeFor o l r k xs)) ≡ reachBy o (itemsReach xs) (reach (at l)) (reach (at r))
   unfolding nodeFor itemsRight
   node-reads =
       by-operator (λ o. itemsRight o xs ≡ true → reach (readsOf at (nodeFor o l r k xs)) ≡ reachBy o (itemsReach xs) (reach (at l)) (reach (at r)))
       (λ e. sym (ap itemsReach (empty-nil xs e)))
       (λ e. one (conjuncts e))
-      (λ e. reach-append (computationReads (computationIn xs)) (at l) ∙ ap (λ (q : ℕ). max q (reach (at l))) (compute-reach xs (eqb-true _ _ (and-left (eqb (length xs) 1) _ e)) (and-right (eqb (length xs) 1) _ e)))
+      (λ e. reach-append (computationReads (computationIn xs)) (at l) ∙ ap (λ (q : ℕ). max q (reach (at l)))
+      (compute-reach xs (eqb-true _ _ (and-left (eqb (length xs) 1) _ e)) (and-right (eqb (length xs) 1) _ e)))
       (λ e. omega (arith, silent-reach (all-every outputRight (position-silent 12) xs (and-right (not (isEmpty xs)) _ e))))
       (λ e. two (conjuncts e))
-      (λ e. omega (arith, silent-reach (front-every keyRight aggregateRight (position-silent 11) aggregate-silent (length (keep isKey xs)) xs (and-right (not (isEmpty xs)) _ e))))
-      (λ e. two (front-every conjunctRight aggregateRight conjunct-quiet (λ x h q. aggregate-silent x h) (length (keep isConjunct xs)) xs (and-right (ltb (length (keep isConjunct xs)) (length xs)) _ e)))
+      (λ e. omega (
+        arith,
+        silent-reach (front-every keyRight aggregateRight (position-silent 11) aggregate-silent (length (keep isKey xs)) xs
+            (and-right (not (isEmpty xs)) _ e)),
+      ))
+      (λ e. two (front-every conjunctRight aggregateRight conjunct-quiet (λ x h q. aggregate-silent x h) (length (keep isConjunct xs)) xs
+      (and-right (ltb (length (keep isConjunct xs)) (length xs)) _ e)))
       (λ e. over (conjuncts e))
     where
       conjuncts : all conjunctRight xs ≡ true → Every Quiet xs
@@ -236,8 +251,11 @@ module _ (at : ℕ → List Column) (l r : ℕ) (k : Kind) (xs : List Item) wher
       two : Every Quiet xs → reach (each conjunctReads (conjunctsIn xs) ++ (at l ++ at r)) ≡ max (max (itemsReach xs) (reach (at l))) (reach (at r))
       two q = omega (arith, reach-append (each conjunctReads (conjunctsIn xs)) (at l ++ at r), reach-append (at l) (at r), conjuncts-reach q)
 
-      over : Every Quiet xs → reach (each conjunctReads (conjunctsIn xs) ++ (at l ++ past (at r))) ≡ max (max (itemsReach xs) (reach (at l))) (pred (reach (at r)))
-      over q = omega (arith, reach-append (each conjunctReads (conjunctsIn xs)) (at l ++ past (at r)), reach-append (at l) (past (at r)), reach-past (at r), conjuncts-reach q)
+      over : Every Quiet xs
+          → reach (each conjunctReads (conjunctsIn xs) ++ (at l ++ past (at r))) ≡ max (max (itemsReach xs) (reach (at l))) (pred (reach (at r)))
+      over q =
+          let whole = reach-append (each conjunctReads (conjunctsIn xs)) (at l ++ past (at r)) in
+          omega (arith, whole, reach-append (at l) (past (at r)), reach-past (at r), conjuncts-reach q)
 
 -- ---- levels
 
@@ -247,7 +265,9 @@ Low x = (x .first .level ≤ 7) × (x .second .level ≤ 7)
 
 -- the items of a right node have such levels
 items-low : (xs : List Item) (o : ℕ) → 1 ≤ o → o ≤ 8 → itemsRight o xs ≡ true → Every Low xs
-items-low = items-every conjunct computation (λ x e. column x (and-right (isKey x) _ e)) (λ x e. column x (and-right (isOutput x) _ e)) (λ x e. (local-low (x .first) (aggregate-local x e), unused-low (x .second) (aggregate-unused x e)))
+items-low =
+    items-every conjunct computation (λ x e. column x (and-right (isKey x) _ e)) (λ x e. column x (and-right (isOutput x) _ e))
+    (λ x e. (local-low (x .first) (aggregate-local x e), unused-low (x .second) (aggregate-unused x e)))
   where
     conjunct : (x : Item) → conjunctRight x ≡ true → Low x
     conjunct x e =
@@ -271,9 +291,11 @@ module _ (ws : List ℕ) (f : Formed ws) (n : ℕ) (h : n < nodes ws) where
   pub items-asked : {a m : ℕ} → a ≡ firstItem ws n → m ≡ itemCount ws n
       → (a + m ≤ 2000) × ((i : ℕ) → i < m → (itemWord ws (a + i) 2 ≤ 7) × (itemWord ws (a + i) 5 ≤ 7))
   items-asked e g =
+      let facts = facts-at ws f n h in
+      let low = items-low (itemsOf ws n) (operator ws n) (facts .low) (facts .high) (facts .sorts) in
       rw (e, g) (
-        omega (arith, facts-at ws f n h .within, limited ws (f .sized) .items-few),
-        upto-all (itemCount ws n) (every-unmapped (λ i. itemAt ws (firstItem ws n + i)) (upto (itemCount ws n)) (items-low (itemsOf ws n) (operator ws n) (facts-at ws f n h .low) (facts-at ws f n h .high) (facts-at ws f n h .sorts))),
+        omega (arith, facts .within, limited ws (f .sized) .items-few),
+        upto-all (itemCount ws n) (every-unmapped (λ i. itemAt ws (firstItem ws n + i)) (upto (itemCount ws n)) low),
       )
 
   -- inputs are nodes
@@ -288,46 +310,36 @@ module _ (ws : List ℕ) (f : Formed ws) (n : ℕ) (h : n < nodes ws) where
 
 -- ---- a node as the code reads it
 
-module _ (ws : List ℕ) (n : ℕ) (at : ℕ → ℕ) {o a m own : ℕ} (eo : o ≡ operator ws n) (ea : a ≡ firstItem ws n) (em : m ≡ itemCount ws n)
-    (ew : own ≡ itemsReach (itemsFrom ws a m)) where
-  -- the reach of the node's own items
-  own-is : own ≡ itemsReach (itemsOf ws n)
-  own-is = rw (ea, em) at ew
+-- the reach of the node's own items
+pub own-reach : (ws : List ℕ) (n : ℕ) {a m own : ℕ} → a ≡ firstItem ws n → m ≡ itemCount ws n → own ≡ itemsReach (itemsFrom ws a m)
+    → own ≡ itemsReach (itemsOf ws n)
+own-reach ws n ea em ew = rw (ea, em) at ew
 
-  -- a scan
-  pub scan-reach : o ≡ 1 → own ≡ nodeReach ws at n
-  scan-reach h = rw (eq-eqb (operator ws n) 1 (sym eo ∙ h)) own-is
+-- what is said of what the code read is said of the node
+pub reach-read : (ws : List ℕ) (n : ℕ) (at : ℕ → ℕ) {o own l r y : ℕ} → o ≡ operator ws n → own ≡ itemsReach (itemsOf ws n)
+    → l ≡ at (left ws n) → r ≡ at (right ws n) → y ≡ reachBy o own l r → y ≡ nodeReach ws at n
+reach-read ws n at eo ew el er q = rw (sym eo, sym ew, sym el, sym er) q
 
-  -- x is the larger of its own and its left input's
-  module _ (h : o ≡ 1 → ⊥) {l i x : ℕ} (el : l ≡ left ws n) (ei : i ≡ l) (ex : x ≡ max own (at i)) {b : Bool} (eb : b ≡ hasRight o) where
-    -- its own and its left input's
-    left-is : x ≡ max (itemsReach (itemsOf ws n)) (at (left ws n))
-    left-is = ex ∙ ap₂ max own-is (ap at (ei ∙ el))
+-- by operator, from its own items, its left input and its right
+module _ (o own l r : ℕ) where
+  pub scan-reach : o ≡ 1 → own ≡ reachBy o own l r
+  scan-reach e = rw e
 
-    -- a node with one input
-    pub one-reach : not b ≡ true → x ≡ nodeReach ws at n
-    one-reach q = rw (ne-eqb (operator ws n) 1 (λ p. h (eo ∙ p)), right-read ws n eo eb (not-true b q)) left-is
+  -- a node with one input
+  pub one-reach : (o ≡ 1 → ⊥) → hasRight o ≡ false → {x : ℕ} → x ≡ max own l → x ≡ reachBy o own l r
+  one-reach h q g = rw (ne-eqb o 1 h, q) g
 
-    module _ (q : not b ≡ false) {r j : ℕ} (er : r ≡ right ws n) (ej : j ≡ r) where
-      -- its right input's
-      right-is : at j ≡ at (right ws n)
-      right-is = ap at (ej ∙ er)
+  -- a dependent join, whose right side reads outer columns
+  pub past-reach : o ≡ 8 → {x y : ℕ} → x ≡ max own l → y ≡ max x (r - 1) → y ≡ reachBy o own l r
+  past-reach e {x} {y} g k = let sum : y ≡ max (max own l) (pred r) = omega (arith, g, k) in rw e sum
 
-      -- a dependent join, whose right side reads outer columns
-      pub past-reach : o ≡ 8 → {y : ℕ} → y ≡ max x (at j - 1) → y ≡ nodeReach ws at n
-      past-reach e {y} g =
-          let sum : y ≡ max (max (itemsReach (itemsOf ws n)) (at (left ws n))) (pred (at (right ws n))) = omega (arith, left-is, right-is) in
-          rw (sym eo ∙ e) sum
+  -- or reads none
+  pub none-reach : o ≡ 8 → r ≤ 0 → {x : ℕ} → x ≡ max own l → x ≡ reachBy o own l r
+  none-reach e n {x} g = let sum : x ≡ max (max own l) (pred r) = omega (arith, g, n) in rw e sum
 
-      -- or reads none
-      pub none-reach : o ≡ 8 → at j ≤ 0 → x ≡ nodeReach ws at n
-      none-reach e g =
-          let sum : x ≡ max (max (itemsReach (itemsOf ws n)) (at (left ws n))) (pred (at (right ws n))) = omega (arith, left-is, right-is) in
-          rw (sym eo ∙ e) sum
-
-      -- another node with two inputs
-      pub both-reach : (o ≡ 8 → ⊥) → {y : ℕ} → y ≡ max x (at j) → y ≡ nodeReach ws at n
-      both-reach e g = rw (ne-eqb (operator ws n) 1 (λ p. h (eo ∙ p)), right-read ws n eo eb (not-false b q), ne-eqb (operator ws n) 8 (λ p. e (eo ∙ p))) (omega (arith, left-is, right-is))
+  -- another node with two inputs
+  pub both-reach : (o ≡ 1 → ⊥) → hasRight o ≡ true → (o ≡ 8 → ⊥) → {x y : ℕ} → x ≡ max own l → y ≡ max x r → y ≡ reachBy o own l r
+  both-reach h q e g k = rw (ne-eqb o 1 h, q, ne-eqb o 8 e) (omega (arith, g, k))
 
 -- ---- all nodes
 
@@ -336,19 +348,23 @@ reach-same : (o own l r a b : ℕ) → ((o ≡ 1 → ⊥) → l ≡ a) → (hasR
 reach-same o own l r a b e g = go (eqb o 1) refl (hasRight o) refl
   where
     go : (c : Bool) → eqb o 1 ≡ c → (d : Bool) → hasRight o ≡ d
-        → cond c own (cond d (max (max own l) (cond (eqb o 8) (pred r) r)) (max own l)) ≡ cond c own (cond d (max (max own a) (cond (eqb o 8) (pred b) b)) (max own a))
+        → cond c own (cond d (max (max own l) (cond (eqb o 8) (pred r) r)) (max own l))
+        ≡ cond c own (cond d (max (max own a) (cond (eqb o 8) (pred b) b)) (max own a))
     go true p d q = refl
     go false p true q = rw (e (eqb-false o 1 p), g q)
     go false p false q = rw (e (eqb-false o 1 p))
 
 -- the reach of a node from those of its inputs
-pub reach-of : (ws : List ℕ) → Formed ws → (n : ℕ) → n < nodes ws → (at : ℕ → ℕ) → ((m : ℕ) → m < n → at m ≡ reach (shapeAt (widthsOf ws) (nodesOf ws) m .reads))
+pub reach-of : (ws : List ℕ) → Formed ws → (n : ℕ) → n < nodes ws → (at : ℕ → ℕ)
+    → ((m : ℕ) → m < n → at m ≡ reach (shapeAt (widthsOf ws) (nodesOf ws) m .reads))
     → nodeReach ws at n ≡ reach (shapeAt (widthsOf ws) (nodesOf ws) n .reads)
 reach-of ws f n h at before =
     let facts = facts-at ws f n h in
     let shape = shapeAt (widthsOf ws) (nodesOf ws) in
-    reach-same (operator ws n) (itemsReach (itemsOf ws n)) (at (left ws n)) (at (right ws n)) _ _ (λ q. before _ (facts .left-node q)) (λ q. before _ (facts .right-node q))
-    ∙ sym (node-reads (λ i. shape i .reads) (left ws n) (right ws n) (kindOf (kind ws n)) (itemsOf ws n) (operator ws n) (facts .low) (facts .high) (facts .sorts))
+    reach-same (operator ws n) (itemsReach (itemsOf ws n)) (at (left ws n)) (at (right ws n)) _ _ (λ q. before _ (facts .left-node q))
+    (λ q. before _ (facts .right-node q))
+    ∙ sym (node-reads (λ i. shape i .reads) (left ws n) (right ws n) (kindOf (kind ws n)) (itemsOf ws n) (operator ws n) (facts .low)
+    (facts .high) (facts .sorts))
     ∙ sym (ap (λ (s : Shape). reach (s .reads)) (shape-of ws f n h))
 
 -- ---- open nodes
@@ -359,7 +375,8 @@ reach-open [] = refl
 reach-open (c ∷ cs) = lt-ltb 0 (reach (c ∷ cs)) (omega arith)
 
 -- as the code reads node n's reach and uses
-module _ (ws uses reaches : List ℕ) (sized : Sized ws) (counted : Counted ws uses) (reached : Reaches ws reaches) (n : ℕ) (h : n < nodes ws) {i : ℕ} (e : i ≡ n) where
+module _ {ws : List ℕ} (uses reaches : List ℕ) (sized : Sized ws) (counted : Counted ws uses) (reached : Reaches ws reaches) (n : ℕ)
+    (h : n < nodes ws) {i : ℕ} (e : i ≡ n) where
   -- the node is open where the table has a reach
   open-is : not (isEmpty (shapeAt (widthsOf ws) (nodesOf ws) n .reads)) ≡ ltb 0 (getD reaches i 0)
   open-is = rw (e, reached n h) (sym (reach-open (shapeAt (widthsOf ws) (nodesOf ws) n .reads)))

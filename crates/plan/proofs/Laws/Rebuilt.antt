@@ -12,7 +12,8 @@ use Rattle.algebra.specs.Plan.{Kind}
 use Rattle.algebra.proofs.Lists.Every.{every-head, every-map, every-both, every-front}
 use Rattle.algebra.proofs.Lists.Keep.{keep-all, map-map, map-id}
 use Rattle.plan.specs.Words.{Item}
-use Rattle.plan.specs.Items.{isConjunct, isKey, isAggregate, conjunctOf, positionOf, aggregateOf, conjunctsIn, conjunctRight, computationRight, keyRight, outputRight, aggregateRight}
+use Rattle.plan.specs.Items.{isConjunct, isKey, isAggregate, conjunctOf, positionOf, aggregateOf}
+use Rattle.plan.specs.Items.{conjunctsIn, conjunctRight, computationRight, keyRight, outputRight, aggregateRight}
 use Rattle.plan.specs.Plan.{kindOf, nodeFor}
 use Rattle.plan.specs.Verdict.{inFront, itemsRight, hasRight, hasKind}
 use Rattle.plan.specs.Encoding.{kindWord, parts}
@@ -21,7 +22,8 @@ use Rattle.plan.proofs.Laws.Header.{both}
 use Rattle.plan.proofs.Laws.Formed.{by-operator}
 use Rattle.plan.proofs.Laws.Numbered.{in-range, every-all}
 use Rattle.plan.proofs.Laws.Written.{conjunctItem, positionItem, aggregateItem, nodeItems}
-use Rattle.plan.proofs.Laws.Restored.{Narrow, conjunct-again, computation-again, position-again, aggregate-again, conjunct-not-aggregate, key-not-aggregate, aggregate-not-conjunct, aggregate-not-key}
+use Rattle.plan.proofs.Laws.Restored.{Narrow, conjunct-again, computation-again, position-again, aggregate-again}
+use Rattle.plan.proofs.Laws.Restored.{conjunct-not-aggregate, key-not-aggregate, aggregate-not-conjunct, aggregate-not-key}
 
 -- ---- lists of items
 
@@ -65,7 +67,8 @@ conjuncts-again xs e h =
 -- ---- a node
 
 -- the items of a node are written again
-pub items-again : (l r : ℕ) (k : Kind) (xs : List Item) → Every Narrow xs → (o : ℕ) → 1 ≤ o → o ≤ 8 → itemsRight o xs ≡ true → nodeItems (nodeFor o l r k xs) ≡ xs
+pub items-again : (l r : ℕ) (k : Kind) (xs : List Item) → Every Narrow xs → (o : ℕ) → 1 ≤ o → o ≤ 8 → itemsRight o xs ≡ true
+    → nodeItems (nodeFor o l r k xs) ≡ xs
 unfolding nodeFor itemsRight
 items-again l r k xs h = by-operator Again (λ e. sym (empty-nil xs e)) conjuncts one outputs conjuncts groups groupjoins conjuncts
   where
@@ -101,7 +104,9 @@ items-again l r k xs h = by-operator Again (λ e. sym (empty-nil xs e)) conjunct
         parts-again conjunctItem conjunctOf aggregateItem aggregateOf m xs (keep isConjunct xs) (keep isAggregate xs)
         (keep-taken conjunctRight aggregateRight isConjunct isAggregate m xs f (λ x g. both _ _ g .0) aggregate-not-conjunct)
         (keep-dropped conjunctRight aggregateRight isConjunct isAggregate m xs f conjunct-not-aggregate (λ x g. both _ _ g .0))
-        (every-map (λ x g. conjunct-again x (g .0) (g .1)) (every-both (taken-every conjunctRight aggregateRight isConjunct isAggregate m xs f) (every-front (take m xs) (drop m xs) (rw (take-append-drop m xs) h))))
+        (every-map (λ x g. conjunct-again x (g .0) (g .1))
+        (every-both (taken-every conjunctRight aggregateRight isConjunct isAggregate m xs f)
+        (every-front (take m xs) (drop m xs) (rw (take-append-drop m xs) h))))
         (every-map aggregate-again (dropped-every conjunctRight aggregateRight isConjunct isAggregate m xs f))
 
 -- the four words of a node
@@ -117,7 +122,9 @@ module _ (l r k : ℕ) (xs : List Item) where
   -- "Unused words are 0."
   pub right-again : (o : ℕ) → 1 ≤ o → o ≤ 8 → (hasRight o ≡ false → r ≡ 0) → parts (nodeFor o l r (kindOf k) xs) .right ≡ r
   unfolding nodeFor
-  right-again = by-operator (λ o. (hasRight o ≡ false → r ≡ 0) → parts (nodeFor o l r (kindOf k) xs) .right ≡ r) zero zero zero zero (λ h. refl) zero (λ h. refl) (λ h. refl)
+  right-again =
+      by-operator (λ o. (hasRight o ≡ false → r ≡ 0) → parts (nodeFor o l r (kindOf k) xs) .right ≡ r) zero zero zero zero (λ h. refl) zero
+      (λ h. refl) (λ h. refl)
     where
       zero : (false ≡ false → r ≡ 0) → 0 ≡ r
       zero h = sym (h refl)

@@ -9,7 +9,8 @@ use Rattle.algebra.specs.Lists.{done, more}
 use Rattle.algebra.proofs.Lists.Same.{and-left, and-right}
 use Rattle.algebra.proofs.Domains.Keys.{upto-all}
 use Rattle.plan.specs.Words.{Three, Item}
-use Rattle.plan.specs.Items.{between, isConjunct, isKey, isAggregate, signed, termOf, testOf, conjunctOf, computationOf, positionOf, aggregateOf, termRight, isLocal, isUnused, conjunctRight, computationRight, keyRight, aggregateRight}
+use Rattle.plan.specs.Items.{between, isConjunct, isKey, isAggregate, signed, termOf, testOf, conjunctOf, computationOf}
+use Rattle.plan.specs.Items.{positionOf, aggregateOf, termRight, isLocal, isUnused, conjunctRight, computationRight, keyRight, aggregateRight}
 use Rattle.plan.specs.Encoding.{unsigned, testTag}
 use Rattle.plan.proofs.Laws.Header.{both, between-says, between-fails}
 use Rattle.plan.proofs.Laws.Numbered.{in-range}
@@ -44,7 +45,11 @@ code-few t e = go (leb c 3) refl
     go true f = leb-true c 3 f
     go false f =
         let l = leb-false c 3 f in
-        absurd (true≢false (sym (and-right (eqb (t .level) 0) false (rw (ne-eqb c 1 (λ q. omega arith), ne-eqb c 0 (λ q. omega arith), ne-eqb c 2 (λ q. omega arith), ne-eqb c 3 (λ q. omega arith)) at e))))
+        absurd
+        (true≢false
+        (sym
+        (and-right (eqb (t .level) 0) false
+        (rw (ne-eqb c 1 (λ q. omega arith), ne-eqb c 0 (λ q. omega arith), ne-eqb c 2 (λ q. omega arith), ne-eqb c 3 (λ q. omega arith)) at e))))
 
 -- a used term
 three-again : (t : Three) → termRight t ≡ true → t .value < 2 ^ 32 → threeOf (termOf t) ≡ t

@@ -124,7 +124,8 @@ module _ (ws reaches : List ℕ) (p : ℕ) where
       away false n = refl
 
       same : (b : Bool) → eqb m i ≡ b
-          → getD (cond (ltb 0 (getD reaches i 0)) (set joins i value) joins) m 0 ≡ cond (b && ltb 0 (getD reaches m 0)) (cond (isRightSide ws p m) p (getD joins p 0)) (getD joins m 0)
+          → getD (cond (ltb 0 (getD reaches i 0)) (set joins i value) joins) m 0
+          ≡ cond (b && ltb 0 (getD reaches m 0)) (cond (isRightSide ws p m) p (getD joins p 0)) (getD joins m 0)
       same true e = let q : m ≡ i = eqb-true m i e in rw q (here (ltb 0 (getD reaches i 0)))
       same false e = away (ltb 0 (getD reaches i 0)) (eqb-false m i e)
 
@@ -144,13 +145,15 @@ module _ (ws reaches : List ℕ) (p : ℕ) where
 
   -- an entry once all inputs are entered
   all-at : {is : List ℕ} → Every (λ j. j < p) is → (m : ℕ) (joins : List ℕ) → p < length joins
-      → getD (enteredAll ws reaches p is joins) m 0 ≡ cond (any (eqb m) is && ltb 0 (getD reaches m 0)) (cond (isRightSide ws p m) p (getD joins p 0)) (getD joins m 0)
+      → getD (enteredAll ws reaches p is joins) m 0
+      ≡ cond (any (eqb m) is && ltb 0 (getD reaches m 0)) (cond (isRightSide ws p m) p (getD joins p 0)) (getD joins m 0)
   unfolding enteredAll
   all-at done m joins h = refl
   all-at (more {x} {xs} g t) m joins h =
       let kept : getD (entered ws reaches p x joins) p 0 ≡ getD joins p 0 = entered-at x p joins (omega arith) ∙ rw (ne-eqb p x (λ e. omega arith)) in
       all-at t m (entered ws reaches p x joins) (rw (entered-long x joins) h)
-      ∙ rw (kept, entered-at x m joins (omega arith)) (glue (eqb m x) (any (eqb m) xs) (ltb 0 (getD reaches m 0)) (cond (isRightSide ws p m) p (getD joins p 0)) (getD joins m 0))
+      ∙ rw (kept, entered-at x m joins (omega arith))
+      (glue (eqb m x) (any (eqb m) xs) (ltb 0 (getD reaches m 0)) (cond (isRightSide ws p m) p (getD joins p 0)) (getD joins m 0))
 
 module _ (ws reaches : List ℕ) (f : Formed ws) (p : ℕ) (h : p < nodes ws) where
   -- the table once node p is entered
@@ -178,7 +181,8 @@ module _ (ws reaches : List ℕ) (f : Formed ws) (p : ℕ) (h : p < nodes ws) wh
       kept u g = is u ∙ rw (none-from p u g below)
 
       mine : (m : ℕ) (read : Bool) → ltb 0 (getD reaches m 0) ≡ read → m < nodes ws
-          → cond (true && read) (cond (isRightSide ws p m) p (getD joins p 0)) (getD joins m 0) ≡ cond (read && ltb p (nodes ws)) (cond (isRightSide ws p m) p (getD after p 0)) 256
+          → cond (true && read) (cond (isRightSide ws p m) p (getD joins p 0)) (getD joins m 0)
+          ≡ cond (read && ltb p (nodes ws)) (cond (isRightSide ws p m) p (getD after p 0)) 256
       mine m true o l = rw (lt-ltb p (nodes ws) h, kept p (omega arith))
       mine m false o l = e .at m l ∙ rw o
 
@@ -186,7 +190,8 @@ module _ (ws reaches : List ℕ) (f : Formed ws) (p : ℕ) (h : p < nodes ws) wh
       others m u above = go (ltb u (nodes ws)) refl
         where
           go : (b : Bool) → ltb u (nodes ws) ≡ b
-              → cond (ltb 0 (getD reaches m 0) && b) (cond (isRightSide ws u m) u (getD joins u 0)) 256 ≡ cond (ltb 0 (getD reaches m 0) && b) (cond (isRightSide ws u m) u (getD after u 0)) 256
+              → cond (ltb 0 (getD reaches m 0) && b) (cond (isRightSide ws u m) u (getD joins u 0)) 256
+              ≡ cond (ltb 0 (getD reaches m 0) && b) (cond (isRightSide ws u m) u (getD after u 0)) 256
           go true t = rw (kept u (omega (arith, above (ltb-true u (nodes ws) t))))
           go false t = rw (and-false (ltb 0 (getD reaches m 0)))
 
@@ -223,53 +228,57 @@ joins-start ws reaches p f e = record { long = refl; at = at }
         ∙ rw (e, user-none ws m, le-ltb (nodes ws) (nodes ws) (omega arith), and-false (ltb 0 (getD reaches m 0)))
 
 -- an input is entered where it is open
-module _ (ws reaches joins : List ℕ) (p i w : ℕ) (e : w ≡ i) where
+module _ (ws reaches joins : List ℕ) (p : ℕ) {i w : ℕ} (e : w ≡ i) where
   -- a closed input
   pub enter-closed : getD reaches w 0 ≤ 0 → joins ≡ entered ws reaches p i joins
   unfolding entered
   enter-closed h = rw (le-ltb 0 (getD reaches i 0) (rw e at h))
 
   -- an open one
-  pub enter-open : (v r : ℕ) → v ≡ i → 0 < getD reaches w 0 → r ≡ cond (isRightSide ws p i) p (getD joins p 0) → set joins v r ≡ entered ws reaches p i joins
+  pub enter-open : {v r : ℕ} → v ≡ i → 0 < getD reaches w 0 → r ≡ cond (isRightSide ws p i) p (getD joins p 0)
+      → set joins v r ≡ entered ws reaches p i joins
   unfolding entered
-  enter-open v r d h q = rw (lt-ltb 0 (getD reaches i 0) (rw e at h), d, q)
+  enter-open d h q = rw (lt-ltb 0 (getD reaches i 0) (rw e at h), d, q)
 
 -- the table once the left input of node p is entered
 abbrev pub leftEntered : List ℕ → List ℕ → ℕ → List ℕ → List ℕ
 leftEntered ws reaches p joins = cond (eqb (operator ws p) 1) joins (entered ws reaches p (left ws p) joins)
 
-module _ (ws reaches joins : List ℕ) (p o : ℕ) (q : o ≡ operator ws p) where
+module _ (ws reaches joins : List ℕ) (p : ℕ) {o : ℕ} (q : o ≡ operator ws p) where
   -- a scan has none
   pub left-none : o ≡ 1 → joins ≡ leftEntered ws reaches p joins
   left-none e = rw (eq-eqb (operator ws p) 1 (sym q ∙ e))
 
   -- another node has one
-  pub left-done : (after : List ℕ) (i : ℕ) → (o ≡ 1 → ⊥) → i ≡ left ws p → after ≡ entered ws reaches p i joins → after ≡ leftEntered ws reaches p joins
-  left-done after i n d e = rw (ne-eqb (operator ws p) 1 (λ t. n (q ∙ t)), sym d) e
+  pub left-done : {after : List ℕ} {i : ℕ} → (o ≡ 1 → ⊥) → i ≡ left ws p → after ≡ entered ws reaches p i joins
+      → after ≡ leftEntered ws reaches p joins
+  left-done n d e = rw (ne-eqb (operator ws p) 1 (λ t. n (q ∙ t)), sym d) e
 
-module _ (ws reaches joins : List ℕ) (f : Formed ws) (q : ℕ) (some : 0 < q) (h : q ≤ nodes ws) (e : Entered ws reaches joins q) where
+module _ {ws reaches joins : List ℕ} (f : Formed ws) {q : ℕ} (some : 0 < q) (h : q ≤ nodes ws) (e : Entered ws reaches joins q) where
   -- the table once node q - 1 is entered
-  entered-before : (after : List ℕ) → after ≡ enteredAll ws reaches (q - 1) (inputs (nodeAt ws (q - 1))) joins → Entered ws reaches after (q - 1)
-  entered-before after d =
+  entered-before : {after : List ℕ} → after ≡ enteredAll ws reaches (q - 1) (inputs (nodeAt ws (q - 1))) joins → Entered ws reaches after (q - 1)
+  entered-before d =
       let s : q ≡ q - 1 + 1 = omega arith in
       rw d (entered-node ws reaches f (q - 1) (omega arith) joins (rw (sym s) e))
 
   -- node q - 1 has no right input
-  pub joins-left : (after : List ℕ) (o : ℕ) → o ≡ operator ws (q - 1) → hasRight o ≡ false → after ≡ leftEntered ws reaches (q - 1) joins → Entered ws reaches after (q - 1)
+  pub joins-left : {after : List ℕ} {o : ℕ} → o ≡ operator ws (q - 1) → hasRight o ≡ false → after ≡ leftEntered ws reaches (q - 1) joins
+      → Entered ws reaches after (q - 1)
   unfolding enteredAll
-  joins-left after o d n l =
-      entered-before after (l ∙ rw (inputs-at ws f (q - 1) (omega arith), sym d, n) (go (eqb o 1)))
+  joins-left {o = o} d n l =
+      entered-before (l ∙ rw (inputs-at ws f (q - 1) (omega arith), sym d, n) (go (eqb o 1)))
     where
-      go : (b : Bool) → cond b joins (entered ws reaches (q - 1) (left ws (q - 1)) joins) ≡ enteredAll ws reaches (q - 1) (cond b [] (left ws (q - 1) ∷ [])) joins
+      go : (b : Bool)
+          → cond b joins (entered ws reaches (q - 1) (left ws (q - 1)) joins) ≡ enteredAll ws reaches (q - 1) (cond b [] (left ws (q - 1) ∷ [])) joins
       go true = refl
       go false = refl
 
   -- node q - 1 has one
-  pub joins-both : (before after : List ℕ) (o i : ℕ) → o ≡ operator ws (q - 1) → hasRight o ≡ true → i ≡ right ws (q - 1) → before ≡ leftEntered ws reaches (q - 1) joins
-      → after ≡ entered ws reaches (q - 1) i before → Entered ws reaches after (q - 1)
+  pub joins-both : {before after : List ℕ} {o i : ℕ} → o ≡ operator ws (q - 1) → hasRight o ≡ true → i ≡ right ws (q - 1)
+      → before ≡ leftEntered ws reaches (q - 1) joins → after ≡ entered ws reaches (q - 1) i before → Entered ws reaches after (q - 1)
   unfolding enteredAll
-  joins-both before after o i d n j l t =
-      entered-before after (t ∙ rw (inputs-at ws f (q - 1) (omega arith), j, l, sym d, n) (go (eqb o 1) refl))
+  joins-both {o = o} d n j l t =
+      entered-before (t ∙ rw (inputs-at ws f (q - 1) (omega arith), j, l, sym d, n) (go (eqb o 1) refl))
     where
       go : (b : Bool) → eqb o 1 ≡ b
           → entered ws reaches (q - 1) (right ws (q - 1)) (cond b joins (entered ws reaches (q - 1) (left ws (q - 1)) joins))
@@ -278,14 +287,16 @@ module _ (ws reaches joins : List ℕ) (f : Formed ws) (q : ℕ) (some : 0 < q) 
       go false s = refl
 
 -- every node is entered
-pub joins-all : (ws reaches joins : List ℕ) (p : ℕ) → p ≤ 0 → Entered ws reaches joins p → Entered ws reaches joins 0
-joins-all ws reaches joins p h e = let q : p ≡ 0 = omega arith in rw q at e
+pub joins-all : {ws reaches joins : List ℕ} {p : ℕ} → p ≤ 0 → Entered ws reaches joins p → Entered ws reaches joins 0
+joins-all {p = p} h e = let q : p ≡ 0 = omega arith in rw q at e
 
 -- ---- the rows around a node
 
-module _ (ws reaches joins : List ℕ) (f : Formed ws) (r : Reaches ws reaches) (e : Entered ws reaches joins 0) where
+module _ {ws reaches joins : List ℕ} (f : Formed ws) (r : Reaches ws reaches) (e : Entered ws reaches joins 0) where
   -- what the table has, by what the plan says
-  rule : (m : ℕ) → m < nodes ws → getD joins m 0 ≡ cond (isOpen ws m && ltb (userOf ws m) (nodes ws)) (cond (isRightSide ws (userOf ws m) m) (userOf ws m) (getD joins (userOf ws m) 0)) 256
+  rule : (m : ℕ) → m < nodes ws
+      → getD joins m 0
+      ≡ cond (isOpen ws m && ltb (userOf ws m) (nodes ws)) (cond (isRightSide ws (userOf ws m) m) (userOf ws m) (getD joins (userOf ws m) 0)) 256
   unfolding around
   rule m l =
       e .at m l
@@ -302,7 +313,8 @@ module _ (ws reaches joins : List ℕ) (f : Formed ws) (r : Reaches ws reaches) 
       go : (b c : Bool) → (isOpen ws m && ltb u (nodes ws)) ≡ b → isRightSide ws u m ≡ c → getD joins m 0 ≡ cond b (cond c u (getD joins u 0)) 256
           → (nodes ws ≤ u + k → u < nodes ws → getD joins u 0 < 256 → (getD joins u 0 < nodes ws) × (operator ws (getD joins u 0) ≡ 8))
           → getD joins m 0 < 256 → (getD joins m 0 < nodes ws) × (operator ws (getD joins m 0) ≡ 8)
-      go true true s t q before = rw q (λ h. (ltb-true u (nodes ws) (and-right (isOpen ws m) _ s), eqb-true (operator ws u) 8 (and-left (eqb (operator ws u) 8) _ t)))
+      go true true s t q before =
+          rw q (λ h. (ltb-true u (nodes ws) (and-right (isOpen ws m) _ s), eqb-true (operator ws u) 8 (and-left (eqb (operator ws u) 8) _ t)))
       go true false s t q before =
           let n : u < nodes ws = ltb-true u (nodes ws) (and-right (isOpen ws m) _ s) in
           let d : m < u = user-above ws f m n in
@@ -310,7 +322,8 @@ module _ (ws reaches joins : List ℕ) (f : Formed ws) (r : Reaches ws reaches) 
       go false c s t q before = rw q (λ h. absurd (omega arith))
 
   -- what stands around a node is what stands at its join
-  stands : (k m : ℕ) → nodes ws ≤ m + k → m < nodes ws → scopeOf ws m ≡ cond (ltb (getD joins m 0) 256) (widthAt ws (left ws (getD joins m 0)) ∷ scopeOf ws (getD joins m 0)) []
+  stands : (k m : ℕ) → nodes ws ≤ m + k → m < nodes ws
+      → scopeOf ws m ≡ cond (ltb (getD joins m 0) 256) (widthAt ws (left ws (getD joins m 0)) ∷ scopeOf ws (getD joins m 0)) []
   stands zero m g l = absurd (omega arith)
   stands (suc k) m g l =
       scope-once ws f m l
@@ -320,8 +333,10 @@ module _ (ws reaches joins : List ℕ) (f : Formed ws) (r : Reaches ws reaches) 
       u = userOf ws m
 
       go : (b c : Bool) → (isOpen ws m && ltb u (nodes ws)) ≡ b → getD joins m 0 ≡ cond b (cond c u (getD joins u 0)) 256
-          → (nodes ws ≤ u + k → u < nodes ws → scopeOf ws u ≡ cond (ltb (getD joins u 0) 256) (widthAt ws (left ws (getD joins u 0)) ∷ scopeOf ws (getD joins u 0)) [])
-          → cond b (cond c (widthAt ws (left ws u) ∷ scopeOf ws u) (scopeOf ws u)) [] ≡ cond (ltb (getD joins m 0) 256) (widthAt ws (left ws (getD joins m 0)) ∷ scopeOf ws (getD joins m 0)) []
+          → (nodes ws ≤ u + k → u < nodes ws
+          → scopeOf ws u ≡ cond (ltb (getD joins u 0) 256) (widthAt ws (left ws (getD joins u 0)) ∷ scopeOf ws (getD joins u 0)) [])
+          → cond b (cond c (widthAt ws (left ws u) ∷ scopeOf ws u) (scopeOf ws u)) []
+          ≡ cond (ltb (getD joins m 0) 256) (widthAt ws (left ws (getD joins m 0)) ∷ scopeOf ws (getD joins m 0)) []
       go true true s q before =
           let n : u < nodes ws = ltb-true u (nodes ws) (and-right (isOpen ws m) _ s) in
           rw (q, lt-ltb u 256 (omega (arith, limited ws (f .sized) .nodes-few)))

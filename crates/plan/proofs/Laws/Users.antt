@@ -80,7 +80,8 @@ module _ (f : ℕ → Node) (m : ℕ) where
   -- where no node below k has m as an input
   untaken : (k : ℕ) → before k ≡ 0 → keep takes (upto k) ≡ []
   untaken zero e = refl
-  untaken (suc k) e = rw (add-one k) at (none-more takes k (untaken k (omega (arith, uses-more k))) (none-kept (eqb m) (inputs (f k)) (omega (arith, uses-more k))))
+  untaken (suc k) e =
+      rw (add-one k) at (none-more takes k (untaken k (omega (arith, uses-more k))) (none-kept (eqb m) (inputs (f k)) (omega (arith, uses-more k))))
 
   -- the inputs of one node are among those of all
   pub here-few : (k n : ℕ) → k < n → here k ≤ before n
@@ -138,7 +139,8 @@ module _ (ws : List ℕ) (f : Formed ws) where
       go false e rest = rw (and-false (isOpen ws m))
 
   -- what stands around a node, from what stands around its user
-  pub scope-once : (m : ℕ) → m < nodes ws → scopeOf ws m ≡ cond (isOpen ws m && ltb (userOf ws m) (nodes ws)) (given ws m (userOf ws m) (scopeOf ws (userOf ws m))) []
+  pub scope-once : (m : ℕ) → m < nodes ws
+      → scopeOf ws m ≡ cond (isOpen ws m && ltb (userOf ws m) (nodes ws)) (given ws m (userOf ws m) (scopeOf ws (userOf ws m))) []
   unfolding scope
   scope-once m h = fuel-enough (nodes ws) (suc (nodes ws)) m h (omega arith) (omega arith)
 
@@ -149,7 +151,8 @@ module _ (ws : List ℕ) (f : Formed ws) where
       let q : n ≡ userOf ws m = only-user (nodeAt ws) m n (nodes ws) h once t in
       let facts = facts-at ws f n h in
       scope-once m (omega arith)
-      ∙ rw (o, ← q, lt-ltb n (nodes ws) h) (under-for (widthAt ws) (scopeOf ws n) m (left ws n) (right ws n) (kindOf (kind ws n)) (itemsOf ws n) (operator ws n) (facts .low) (facts .high))
+      ∙ rw (o, ← q, lt-ltb n (nodes ws) h)
+      (under-for (widthAt ws) (scopeOf ws n) m (left ws n) (right ws n) (kindOf (kind ws n)) (itemsOf ws n) (operator ws n) (facts .low) (facts .high))
 
   -- the root has no user
   pub scope-of-root : (m : ℕ) → suc m ≡ nodes ws → scopeOf ws m ≡ []

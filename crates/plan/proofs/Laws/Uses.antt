@@ -111,7 +111,8 @@ module _ {ws : List ℕ} {n : ℕ} (formed : Formed ws) (h : n < nodes ws) where
     pub left-added : {l : ℕ} {after : List ℕ} → l ≡ left ws n → (o ≡ 1 → ⊥) → after ≡ set table l (getD table l 0 + 1) → Tally after (seenLeft ws n)
     unfolding seenLeft
     left-added is-left e q =
-        tally-add tally (not (eqb (operator ws n) 1)) (left ws n) (rw (← is-operator, ne-eqb o 1 e)) (omega (arith, left-below ws formed n h is-operator e refl refl, few)) (rw is-left at q)
+        tally-add tally (not (eqb (operator ws n) 1)) (left ws n) (rw (← is-operator, ne-eqb o 1 e))
+        (omega (arith, left-below ws formed n h is-operator e refl refl, few)) (rw is-left at q)
 
     -- a scan has none
     pub left-kept : {after : List ℕ} → o ≡ 1 → after ≡ table → Tally after (seenLeft ws n)
@@ -121,7 +122,9 @@ module _ {ws : List ℕ} {n : ℕ} (formed : Formed ws) (h : n < nodes ws) where
   -- left, then right
   parted : (o : ℕ) → 1 ≤ o → o ≤ 8 → (l r : ℕ)
       → cond (not (eqb o 1)) (l ∷ []) [] ++ cond (hasRight o) (r ∷ []) [] ≡ cond (eqb o 1) [] (cond (hasRight o) (l ∷ r ∷ []) (l ∷ []))
-  parted = by-operator (λ o. (l r : ℕ) → cond (not (eqb o 1)) (l ∷ []) [] ++ cond (hasRight o) (r ∷ []) [] ≡ cond (eqb o 1) [] (cond (hasRight o) (l ∷ r ∷ []) (l ∷ [])))
+  parted =
+      by-operator
+      (λ o. (l r : ℕ) → cond (not (eqb o 1)) (l ∷ []) [] ++ cond (hasRight o) (r ∷ []) [] ≡ cond (eqb o 1) [] (cond (hasRight o) (l ∷ r ∷ []) (l ∷ [])))
       (λ l r. refl) (λ l r. refl) (λ l r. refl) (λ l r. refl) (λ l r. refl) (λ l r. refl) (λ l r. refl) (λ l r. refl)
 
   -- the right input makes up the inputs of one node more
@@ -157,7 +160,8 @@ tally-end ws n e tally g l m h = let q : nodes ws ≡ n = omega arith in rw q (t
 
 -- ---- the lowest unused node
 
-module _ {ws : List ℕ} (uses : List ℕ) (n : ℕ) {m : ℕ} (sized : Sized ws) (counted : Counted ws uses) (is-nodes : m ≡ nodes ws) (none : keep (isUnusedNode ws) (upto n) ≡ []) where
+module _ {ws : List ℕ} (uses : List ℕ) (n : ℕ) {m : ℕ} (sized : Sized ws) (counted : Counted ws uses) (is-nodes : m ≡ nodes ws)
+    (none : keep (isUnusedNode ws) (upto n) ≡ []) where
   -- what the table has at node n
   there : {w : ℕ} → w ≡ n → n + 1 < m → getD uses w 0 ≡ usesOf ws n
   there is-wide h = ap (λ (i : ℕ). getD uses i 0) is-wide ∙ counted n (omega (arith, limited ws sized .nodes-few))
@@ -175,4 +179,5 @@ module _ {ws : List ℕ} (uses : List ℕ) (n : ℕ) {m : ℕ} (sized : Sized ws
   -- the root need not be used
   pub unused-end : n + 1 ≤ m → m ≤ n + 1 → m ≡ lowest (isUnusedNode ws) (nodes ws)
   unused-end h g =
-      is-nodes ∙ lowest-end (isUnusedNode ws) (n + 1) (nodes ws) (none-more (isUnusedNode ws) n none (rw (le-ltb (n + 1) (nodes ws) (omega arith)))) (omega arith) (omega arith)
+      let none-after = none-more (isUnusedNode ws) n none (rw (le-ltb (n + 1) (nodes ws) (omega arith))) in
+      is-nodes ∙ lowest-end (isUnusedNode ws) (n + 1) (nodes ws) none-after (omega arith) (omega arith)

@@ -10,7 +10,8 @@ use Rattle.algebra.proofs.Lists.Every.{every-map}
 use Rattle.algebra.proofs.Lists.Keep.{keep-none}
 use Rattle.algebra.proofs.Domains.Keys.{upto-below}
 use Rattle.plan.specs.Words.{nodes}
-use Rattle.plan.specs.Verdict.{Answer, accepted, lowest, headerRight, limitsRight, nodeRight, isUnusedNode, widthAt, isTooWide, isOpenTwice, columnsRight, orElse, verdict}
+use Rattle.plan.specs.Verdict.{Answer, accepted, lowest, headerRight, limitsRight, nodeRight, isUnusedNode, widthAt, isTooWide}
+use Rattle.plan.specs.Verdict.{isOpenTwice, columnsRight, orElse, verdict}
 use Rattle.plan.specs.Promise.{Sized, Formed, Accepted}
 use Rattle.plan.specs.Passes.{Measured, Widths}
 use Rattle.plan.proofs.Laws.Loops.{lowest-not, lowest-none}

@@ -12,7 +12,8 @@ use Rattle.algebra.specs.Lists.{each, upto, Every, done, more}
 use Rattle.algebra.specs.Plan.{Node}
 use Rattle.algebra.proofs.Lists.Keep.{map-map}
 use Rattle.algebra.proofs.Domains.Keys.{upto-all}
-use Rattle.plan.specs.Words.{Item, word, tables, nodes, items, tableWidth, nodeWord, operator, left, right, kind, firstItem, itemCount, itemWord, itemAt, itemsOf}
+use Rattle.plan.specs.Words.{Item, word, tables, nodes, items, tableWidth, nodeWord, operator}
+use Rattle.plan.specs.Words.{left, right, kind, firstItem, itemCount, itemWord, itemAt, itemsOf}
 use Rattle.plan.specs.Items.{between}
 use Rattle.plan.specs.Plan.{nodeAt, kindOf, widthsOf, nodesOf}
 use Rattle.plan.specs.Verdict.{hasRight, hasKind, itemsBefore, inputsRight, kindRight, countRight, nodeRight}
@@ -38,7 +39,8 @@ module _ (ws : List ℕ) (n : ℕ) (e : nodeRight ws n ≡ true) where
   right-zero : hasRight (operator ws n) ≡ false → right ws n ≡ 0
   unfolding inputsRight
   right-zero q =
-      let h : cond (hasRight (operator ws n)) (ltb (right ws n) n) (eqb (right ws n) 0) ≡ true = both (cond (eqb (operator ws n) 1) _ _) _ (node-tests ws n e .1) .1 in
+      let h : cond (hasRight (operator ws n)) (ltb (right ws n) n) (eqb (right ws n) 0) ≡ true =
+      both (cond (eqb (operator ws n) 1) _ _) _ (node-tests ws n e .1) .1 in
       eqb-true _ _ (rw q at h)
 
   -- the kind word of a node without kind
@@ -53,7 +55,8 @@ module _ (ws : List ℕ) (n : ℕ) (e : nodeRight ws n ≡ true) where
   unfolding countRight
   count-last q =
       let a : ℕ = itemsBefore ws n + itemCount ws n in
-      let h : cond (eqb (n + 1) (nodes ws)) (eqb a (items ws)) (leb a (items ws)) ≡ true = both (eqb (firstItem ws n) (itemsBefore ws n)) _ (node-tests ws n e .3) .1 in
+      let h : cond (eqb (n + 1) (nodes ws)) (eqb a (items ws)) (leb a (items ws)) ≡ true =
+      both (eqb (firstItem ws n) (itemsBefore ws n)) _ (node-tests ws n e .3) .1 in
       eqb-true _ _ (rw (eq-eqb (n + 1) (nodes ws) q) at h)
 
 -- ---- the nodes and their items
@@ -147,8 +150,10 @@ module _ (ws : List ℕ) (f : Formed ws) (small : Every (λ w. w < 2 ^ 32) ws) w
       let g = facts-at ws f n h in
       let o : ℕ = operator ws n in
       let xs : List Item = itemsOf ws n in
-      let first : length (allItems (take n (nodesOf ws))) ≡ firstItem ws n = ap (λ (l : List Node). length (allItems l)) (numbered-take (nodeAt ws) (nodes ws) n (omega arith)) ∙ first-again n (omega arith) ∙ sym (g .first) in
-      let count : length (parts (nodeAt ws n) .items) ≡ itemCount ws n = node-items-length (nodeAt ws n) ∙ ap length (node-items-again n h) ∙ items-length ws (firstItem ws n) (itemCount ws n) in
+      let first : length (allItems (take n (nodesOf ws))) ≡ firstItem ws n =
+      ap (λ (l : List Node). length (allItems l)) (numbered-take (nodeAt ws) (nodes ws) n (omega arith)) ∙ first-again n (omega arith) ∙ sym (g .first) in
+      let count : length (parts (nodeAt ws n) .items) ≡ itemCount ws n =
+      node-items-length (nodeAt ws n) ∙ ap length (node-items-again n h) ∙ items-length ws (firstItem ws n) (itemCount ws n) in
       λ i.
       operator-again (left ws n) (right ws n) (kind ws n) xs o (g .low) (g .high) i
       ∷ left-again (left ws n) (right ws n) (kind ws n) xs o (g .low) (g .high) i
@@ -171,7 +176,8 @@ module _ (ws : List ℕ) (f : Formed ws) (small : Every (λ w. w < 2 ^ 32) ws) w
       encoded.item-word-of (widthsOf ws) (nodesOf ws) j k l
       ∙ ap (λ (x : List (List ℕ)). getD (getD x j []) k 0) (all-again ∙ map-map itemWords (itemAt ws) (upto (items ws)))
       ∙ ap (λ (x : List ℕ). getD x k 0) (numbered-at (λ i. itemWords (itemAt ws i)) (items ws) j [] h)
-      ∙ upto-all {P = λ i. getD (itemWords (itemAt ws j)) i 0 ≡ itemWord ws j i} 7 (more refl (more refl (more refl (more refl (more refl (more refl (more refl done))))))) k l
+      ∙ upto-all {P = λ i. getD (itemWords (itemAt ws j)) i 0 ≡ itemWord ws j i} 7
+      (more refl (more refl (more refl (more refl (more refl (more refl (more refl done))))))) k l
 
   length-same : length (again ws) ≡ length ws
   length-same =

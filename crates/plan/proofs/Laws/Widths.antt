@@ -69,7 +69,8 @@ aggregate-only x e = rw (aggregate-not-key x e, and-left (isAggregate x) _ e)
 group-items : (xs : List Item) → itemsRight 6 xs ≡ true → length (keysIn xs) + length (aggregatesIn xs) ≡ length xs
 unfolding itemsRight
 group-items xs e =
-    simp length-map (split-length isKey isAggregate (front-every keyRight aggregateRight key-only aggregate-only (length (keep isKey xs)) xs (and-right (not (isEmpty xs)) _ e)))
+    let either = front-every keyRight aggregateRight key-only aggregate-only (length (keep isKey xs)) xs (and-right (not (isEmpty xs)) _ e) in
+    simp length-map (split-length isKey isAggregate either)
 
 -- ---- a node as the code reads it
 
@@ -102,7 +103,9 @@ module _ (ws : List ℕ) (f : Formed ws) (n : ℕ) (h : n < nodes ws) {o : ℕ} 
   module _ (at : ℕ → ℕ) {l : ℕ} (el : l ≡ left ws n) where
     pub scan-width : o ≡ 1 → {w : ℕ} → w ≡ tableWidth ws l → w ≡ widthOf (widthsOf ws) at (nodeAt ws n)
     unfolding nodeFor
-    scan-width e g = rw (sym eo ∙ e) (g ∙ ap (tableWidth ws) el ∙ sym (numbered-at (tableWidth ws) (tables ws) (left ws n) 0 (facts-at ws f n h .left-table (sym eo ∙ e))))
+    scan-width e g =
+        let width = numbered-at (tableWidth ws) (tables ws) (left ws n) 0 (facts-at ws f n h .left-table (sym eo ∙ e)) in
+        rw (sym eo ∙ e) (g ∙ ap (tableWidth ws) el ∙ sym width)
 
     module _ {i : ℕ} (ei : i ≡ l) where
       pub select-width : o ≡ 2 → at i ≡ widthOf (widthsOf ws) at (nodeAt ws n)
@@ -113,15 +116,19 @@ module _ (ws : List ℕ) (f : Formed ws) (n : ℕ) (h : n < nodes ws) {o : ℕ} 
       unfolding nodeFor
       compute-width e = rw (sym eo ∙ e, ei ∙ el)
 
-      pub groupjoin-width : o ≡ 7 → {a m c : ℕ} → a ≡ firstItem ws n → m ≡ itemCount ws n → c ≡ length (keep isAggregate (itemsFrom ws a m)) → at i + c ≡ widthOf (widthsOf ws) at (nodeAt ws n)
+      pub groupjoin-width : o ≡ 7 → {a m c : ℕ} → a ≡ firstItem ws n → m ≡ itemCount ws n → c ≡ length (keep isAggregate (itemsFrom ws a m))
+          → at i + c ≡ widthOf (widthsOf ws) at (nodeAt ws n)
       unfolding nodeFor
       groupjoin-width e ea em ec = rw (sym eo ∙ e, ei ∙ el, ec, ea, em) (simp length-map)
 
-      pub join-width : IsJoin o → {k r j w : ℕ} → k ≡ kind ws n → r ≡ right ws n → j ≡ r → w ≡ joinWidth (kindOf k) (at i) (at j) → w ≡ widthOf (widthsOf ws) at (nodeAt ws n)
+      pub join-width : IsJoin o → {k r j w : ℕ} → k ≡ kind ws n → r ≡ right ws n → j ≡ r → w ≡ joinWidth (kindOf k) (at i) (at j)
+          → w ≡ widthOf (widthsOf ws) at (nodeAt ws n)
       unfolding nodeFor
       join-width t ek er ej ew =
           (rw (ek, ei ∙ el, ej ∙ er) at ew)
-          ∙ by-joins (λ o. joinWidth (kindOf (kind ws n)) (at (left ws n)) (at (right ws n)) ≡ widthOf (widthsOf ws) at (nodeFor o (left ws n) (right ws n) (kindOf (kind ws n)) (itemsOf ws n))) refl refl t
+          ∙ by-joins
+          (λ o. joinWidth (kindOf (kind ws n)) (at (left ws n)) (at (right ws n))
+          ≡ widthOf (widthsOf ws) at (nodeFor o (left ws n) (right ws n) (kindOf (kind ws n)) (itemsOf ws n))) refl refl t
 
   module _ (at : ℕ → ℕ) {m : ℕ} (em : m ≡ itemCount ws n) where
     -- a node has as many items as its count says
@@ -139,13 +146,21 @@ module _ (ws : List ℕ) (f : Formed ws) (n : ℕ) (h : n < nodes ws) {o : ℕ} 
 -- ---- all nodes
 
 -- the width of a node from those of its inputs
-width-from : (ws : List ℕ) → Formed ws → (n : ℕ) → n < nodes ws → (at : ℕ → ℕ) → ((m : ℕ) → m < n → at m ≡ widthAt ws m) → widthOf (widthsOf ws) at (nodeAt ws n) ≡ widthAt ws n
+width-from : (ws : List ℕ) → Formed ws → (n : ℕ) → n < nodes ws → (at : ℕ → ℕ) → ((m : ℕ) → m < n → at m ≡ widthAt ws m)
+    → widthOf (widthsOf ws) at (nodeAt ws n) ≡ widthAt ws n
 width-from ws f n h at before =
-    ap (λ (s : Shape). s .width) (shape-same (widthsOf ws) (λ m. record { width = at m; reads = shapeAt (widthsOf ws) (nodesOf ws) m .reads }) (shapeAt (widthsOf ws) (nodesOf ws)) (nodeAt ws n) (every-map (λ m q. same m (before m q)) (inputs-below ws f n h)))
+    ap (λ (s : Shape). s .width)
+    (shape-same (widthsOf ws) given known (nodeAt ws n) (every-map (λ m q. same m (before m q)) (inputs-below ws f n h)))
     ∙ sym (ap (λ (s : Shape). s .width) (shape-of ws f n h))
   where
-    same : (m : ℕ) → at m ≡ widthAt ws m → _≡_ {A = Shape} (record { width = at m; reads = shapeAt (widthsOf ws) (nodesOf ws) m .reads }) (shapeAt (widthsOf ws) (nodesOf ws) m)
-    same m e = ap (λ (w : ℕ). record { width = w; reads = shapeAt (widthsOf ws) (nodesOf ws) m .reads }) e
+    known : ℕ → Shape
+    known = shapeAt (widthsOf ws) (nodesOf ws)
+
+    given : ℕ → Shape
+    given m = record { width = at m; reads = known m .reads }
+
+    same : (m : ℕ) → at m ≡ widthAt ws m → given m ≡ known m
+    same m e = ap (λ (w : ℕ). record { width = w; reads = known m .reads }) e
 
 -- the widths of the nodes before n, none too wide
 module _ (ws rows : List ℕ) (n : ℕ) (before : (m : ℕ) → m < n → getD rows m 0 ≡ widthAt ws m) (narrow : keep (isTooWide ws) (upto n) ≡ []) where

@@ -7,7 +7,8 @@ use native.Mathlib.Omega.{arith}
 use lib.ListN.{length, getD, take, length-append, length-map, List·getD-append}
 use lib.Seq.{getD-append-add}
 use Rattle.algebra.specs.Lists.{each, Every}
-use Rattle.algebra.specs.Plan.{Term, column, outer, constant, nothing, Conjunct, Computation, copy, add, subtract, Aggregate, count, sum, minimum, maximum, Node, scan, select, compute, project, join, group, groupjoin, dependent}
+use Rattle.algebra.specs.Plan.{Term, column, outer, constant, nothing, Conjunct, Computation, copy, add, subtract, Aggregate, count}
+use Rattle.algebra.specs.Plan.{sum, minimum, maximum, Node, scan, select, compute, project, join, group, groupjoin, dependent}
 use Rattle.algebra.proofs.Lists.Every.{every-of, every-mapped}
 use Rattle.algebra.proofs.Lists.Keep.{map-append, map-map, map-cong}
 use Rattle.plan.specs.Words.{Three, Item}
@@ -147,7 +148,8 @@ module _ (d : Node) where
   item-among (x ∷ ns) zero h i l = let p : 0 + i ≡ i = omega arith in rw p (List·getD-append (parts x .items) (allItems ns) [] i l)
   item-among (x ∷ ns) (suc n) h i l =
       let m : ℕ = length (allItems (take n ns)) in
-      let p : length (parts x .items ++ allItems (take n ns)) + i ≡ length (parts x .items) + (m + i) = omega (arith, length-append (parts x .items) (allItems (take n ns))) in
+      let p : length (parts x .items ++ allItems (take n ns)) + i ≡ length (parts x .items) + (m + i) =
+      omega (arith, length-append (parts x .items) (allItems (take n ns))) in
       rw p (getD-append-add (parts x .items) (allItems ns) (m + i) []) ∙ item-among ns n (omega arith) i l
 
   -- word k of node n among the words of all
@@ -161,7 +163,8 @@ module _ (d : Node) where
   word-among from (x ∷ ns) rest (suc n) k h l =
       let m : ℕ = length (parts x .items) in
       let p : 6 * suc n + k ≡ 6 + (6 * n + k) = omega arith in
-      let q : from + length (parts x .items ++ allItems (take n ns)) ≡ from + m + length (allItems (take n ns)) = omega (arith, length-append (parts x .items) (allItems (take n ns))) in
+      let q : from + length (parts x .items ++ allItems (take n ns)) ≡ from + m + length (allItems (take n ns)) =
+      omega (arith, length-append (parts x .items) (allItems (take n ns))) in
       rw p (getD-append-add (six from x) (nodeWords (from + m) ns ++ rest) (6 * n + k) 0)
       ∙ word-among (from + m) ns rest n k (omega arith) l
       ∙ ap (λ (a : ℕ). getD (six a (getD ns n d)) k 0) (sym q)

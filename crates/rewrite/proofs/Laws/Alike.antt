@@ -60,7 +60,8 @@ module _ (at bt : ℕ → Piece) where
       rw (unnest-alike f g k cs D (at l .put D out), join-alike f g k cs D (inside D) out, f .put, g .shape)
 
   -- a closed node
-  pub closed-alike : (widths : List ℕ) (n : Node) → Every (λ i. Alike (at i) (bt i)) (inputs n) → closed (shapeOf widths (λ i. at i .shape) n) ≡ true → (out : List Node)
+  pub closed-alike : (widths : List ℕ) (n : Node) → Every (λ i. Alike (at i) (bt i)) (inputs n) → closed (shapeOf widths (λ i. at i .shape) n) ≡ true
+      → (out : List Node)
       → closedNode at n out ≡ closedNode bt n out
   unfolding closedNode
   closed-alike widths (scan t) h c out = refl
@@ -77,5 +78,6 @@ module _ (at bt : ℕ → Piece) where
   closed-alike widths (dependent k cs l r) h c out =
       let f = every-head h in
       let g = every-head (every-tail h) in
-      rw (unnest-alike f g k cs outside (record { out = out; at = at l .image }), f .image (closed-front (at l .shape .reads) _ (closed-back (each conjunctReads cs) _ c)), g .shape)
+      let shut = closed-front (at l .shape .reads) _ (closed-back (each conjunctReads cs) _ c) in
+      rw (unnest-alike f g k cs outside (record { out = out; at = at l .image }), f .image shut, g .shape)
       (copy-alike f g (λ i. emit (join k cs (bt l .image) i) out) _)

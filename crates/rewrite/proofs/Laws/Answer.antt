@@ -52,14 +52,16 @@ module _ (widths : List ℕ) (ns : List Node) where
   unfolding withinLimits
   within-fits e =
       let rest = and-right (leb (length ns) 256) _ e in
-      let rows = upto-all (length ns) (every-all (λ i. leb (shapeAt widths ns i .width) 64) (upto (length ns)) (and-right (leb (length (allItems ns)) 2000) _ rest)) in
+      let narrow = and-right (leb (length (allItems ns)) 2000) _ rest in
+      let rows = upto-all (length ns) (every-all (λ i. leb (shapeAt widths ns i .width) 64) (upto (length ns)) narrow) in
       record {
         nodes = leb-true _ _ (and-left (leb (length ns) 256) _ e);
         items = omega (arith, leb-true (length (allItems ns)) 2000 (and-left (leb (length (allItems ns)) 2000) _ rest));
         rows = λ i. row rows i (ltb i (length ns)) refl;
       }
     where
-      row : ((i : ℕ) → i < length ns → leb (shapeAt widths ns i .width) 64 ≡ true) → (i : ℕ) (b : Bool) → ltb i (length ns) ≡ b → shapeAt widths ns i .width ≤ 64
+      row : ((i : ℕ) → i < length ns → leb (shapeAt widths ns i .width) 64 ≡ true) → (i : ℕ) (b : Bool) → ltb i (length ns) ≡ b
+          → shapeAt widths ns i .width ≤ 64
       row h i true t = leb-true _ _ (h i (ltb-true i (length ns) t))
       row h i false t = subst (λ (s : Shape). s .width ≤ 64) (sym (shape-past widths ns i (ltb-false i (length ns) t))) (omega arith)
 
@@ -101,7 +103,8 @@ unfolding rewriting outputAfter
 refused ws out k n h q = (rw (q, ne-eqb k 0 h), rw (q, ne-eqb k 0 h))
 
 -- refusals 1 to 7
-pub refused-first : (ws out : List ℕ) (r : Refusal) → refusalOf r ≡ verdict ws → (outcomeOf (Refused r) ≡ rewriting ws (length out)) × (out ≡ outputAfter ws out)
+pub refused-first : (ws out : List ℕ) (r : Refusal) → refusalOf r ≡ verdict ws
+    → (outcomeOf (Refused r) ≡ rewriting ws (length out)) × (out ≡ outputAfter ws out)
 unfolding refusal
 refused-first ws out r e = refused ws out (refusalOf r .number) (refusalOf r .node) (some r) (rw (sym e, ne-eqb (refusalOf r .number) 0 (some r)))
   where
@@ -137,7 +140,8 @@ module _ (ws nodes items : List ℕ) (c : Cursor) (e : verdict ws ≡ accepted) 
 
     words : table ws (c .nodes) (c .items) nodes items ≡ newWords ws
     words =
-        table-words ws (widthsOf ws) nodes items (p .0) c (newPlan ws) (sym (widths-there ws (few-words .0))) (sym (numbered-length (tableWidth ws) (tables ws))) holds
+        table-words ws (widthsOf ws) nodes items (p .0) c (newPlan ws) (sym (widths-there ws (few-words .0)))
+        (sym (numbered-length (tableWidth ws) (tables ws))) holds
 
     module _ (count : ℕ) (is : count ≡ total (tables ws) (c .nodes) (c .items)) where
       -- they are as many as the new plan has
@@ -152,7 +156,8 @@ module _ (ws nodes items : List ℕ) (c : Cursor) (e : verdict ws ≡ accepted) 
       refused-room out h = refused ws out 9 0 (λ q. omega arith) (rw (e, within, lt-ltb (length out) (length (newWords ws)) (rw words-count at h)))
 
       -- they are written
-      pub written : (out out′ : List ℕ) → count ≤ length out → out′ ≡ table ws (c .nodes) (c .items) nodes items ++ drop (total (tables ws) (c .nodes) (c .items)) out
+      pub written : (out out′ : List ℕ) → count ≤ length out
+          → out′ ≡ table ws (c .nodes) (c .items) nodes items ++ drop (total (tables ws) (c .nodes) (c .items)) out
           → (outcomeOf (Words count) ≡ rewriting ws (length out)) × (out′ ≡ outputAfter ws out)
       unfolding refusal rewriting outputAfter
       written out out′ h q =

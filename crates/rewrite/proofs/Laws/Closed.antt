@@ -31,7 +31,8 @@ use Rattle.rewrite.proofs.Laws.Inputs.{inner-within, spotted}
 use Rattle.rewrite.proofs.Laws.Standing.{stands-more}
 use Rattle.rewrite.proofs.Laws.Pages.{fits-front}
 use Rattle.rewrite.proofs.Laws.Put.{inner-extends, last-is, page-over, page-then}
-use Rattle.rewrite.proofs.Laws.Fuel.{AtEnd, Extends, emit-end, extends-none, extends-one, extends-then, own, put-behind, put-end}
+use Rattle.rewrite.proofs.Laws.Behind.{AtEnd, Extends, emit-end, extends-none, extends-one, extends-then}
+use Rattle.rewrite.proofs.Laws.Fuel.{own, put-behind, put-end}
 
 -- ---- what is over a limit stays over
 
@@ -43,8 +44,8 @@ many-over : (widths : List ℕ) → Fits widths many [] → ⊥
 unfolding many
 many-over widths f = omega (arith, f .nodes, length-map (upto 257) scan ∙ length-upto 257)
 
-pub over-stays : {widths nodes nodes′ items items′ rows rows′ : List ℕ} {c d : Cursor} (f : List Node → List Node) → ((out : List Node) → Extends out (f out))
-    → GrowsOver widths nodes nodes′ items items′ rows rows′ c d f → c .ok ≡ false → d .ok ≡ false
+pub over-stays : {widths nodes nodes′ items items′ rows rows′ : List ℕ} {c d : Cursor} (f : List Node → List Node)
+    → ((out : List Node) → Extends out (f out)) → GrowsOver widths nodes nodes′ items items′ rows rows′ c d f → c .ok ≡ false → d .ok ≡ false
 over-stays {widths} {nodes} {nodes′} {items} {items′} {rows} {rows′} {c} {d} f b g e = go (d .ok) refl
   where
     page : Page widths nodes items rows c many []
@@ -74,7 +75,8 @@ chosen : {out : List Node} (b : Bool) {x y : Placed} → Steady out x → Steady
 chosen true f g = f
 chosen false f g = g
 
-closed-steady : (at : ℕ → Piece) → ((i : ℕ) (D : Domain) (out : List Node) → Extends out (at i .put D out .out)) → (n : Node) (out : List Node) → Steady out (closedNode at n out)
+closed-steady : (at : ℕ → Piece) → ((i : ℕ) (D : Domain) (out : List Node) → Extends out (at i .put D out .out))
+    → (n : Node) (out : List Node) → Steady out (closedNode at n out)
 unfolding closedNode unnest
 closed-steady at adds (scan t) out = emitted _ extends-none
 closed-steady at adds (select cs i) out = emitted _ extends-none
@@ -100,22 +102,27 @@ module _ (ws : List ℕ) (images : ℕ → ℕ) (n : ℕ) (out : List Node) wher
 
 module _ (at : ℕ → Piece) (l r : ℕ) (k : Kind) (xs : List Item) (out : List Node) where
   -- a copy, but for a dependent join whose right side is open
-  closed-copy : (o : ℕ) → 1 ≤ o → o ≤ 8 → (o ≡ 8 → closed (at r .shape) ≡ true) → closedNode at (nodeFor o l r k xs) out ≡ emit (copyOf (λ i. at i .image) (nodeFor o l r k xs)) out
+  abbrev Copied : ℕ → Type 0
+  Copied o =
+      (o ≡ 8 → closed (at r .shape) ≡ true) → closedNode at (nodeFor o l r k xs) out ≡ emit (copyOf (λ i. at i .image) (nodeFor o l r k xs)) out
+
+  closed-copy : (o : ℕ) → 1 ≤ o → o ≤ 8 → Copied o
   unfolding closedNode nodeFor
   closed-copy =
-      by-operator (λ o. (o ≡ 8 → closed (at r .shape) ≡ true) → closedNode at (nodeFor o l r k xs) out ≡ emit (copyOf (λ i. at i .image) (nodeFor o l r k xs)) out)
-      (λ e. refl) (λ e. refl) (λ e. refl) (λ e. refl) (λ e. refl) (λ e. refl) (λ e. refl) (λ e. rw (e refl))
+      by-operator Copied (λ e. refl) (λ e. refl) (λ e. refl) (λ e. refl) (λ e. refl) (λ e. refl) (λ e. refl) (λ e. rw (e refl))
 
   -- that one: ks are the keys of its domain, y is the right side under it
-  closed-inner : (o : ℕ) → o ≡ 8 → closed (at r .shape) ≡ false → (ks : List ℕ) → ks ≡ domainKeys outside (at l .shape .width) (at r .shape .reads) → (y : Placed)
+  closed-inner : (o : ℕ) → o ≡ 8 → closed (at r .shape) ≡ false
+      → (ks : List ℕ) → ks ≡ domainKeys outside (at l .shape .width) (at r .shape .reads) → (y : Placed)
       → y ≡ at r .put (innerDomain outside (at l .shape .width) (at r .shape .reads) (length out)) (out ++ (group ks [] (at l .image) ∷ []))
-      → closedNode at (nodeFor o l r k xs) out .out ≡ withInner outside ks (at l .shape .width) (at r .shape .width) (at l .image) (y .at) (nodeFor o l r k xs) (y .out)
+      → closedNode at (nodeFor o l r k xs) out .out
+      ≡ withInner outside ks (at l .shape .width) (at r .shape .width) (at l .image) (y .at) (nodeFor o l r k xs) (y .out)
   unfolding closedNode nodeFor unnest
   closed-inner o q e ks f y g = rw (q, e, g, f)
 
 -- ---- node n of an accepted plan is written
 
-module _ (ws : List ℕ) (a : Accepted ws) (n : ℕ) (h : n < nodes ws) where
+module _ {ws : List ℕ} (a : Accepted ws) {n : ℕ} (h : n < nodes ws) where
   abbrev facts : NodeFacts ws n
   facts = facts-at ws (a .formed) n h
 
@@ -123,13 +130,20 @@ module _ (ws : List ℕ) (a : Accepted ws) (n : ℕ) (h : n < nodes ws) where
   shape i = shapeAt (widthsOf ws) (nodesOf ws) i
 
   -- as a copy
-  pub copy-closes : {nodes₀ nodes₁ items₀ items₁ rows₀ rows₁ images : List ℕ} {c d : Cursor} (x : Node) → (operator ws n ≡ 8 → closed (shape (right ws n)) ≡ true)
-      → GrowsOver (widthsOf ws) nodes₀ nodes₁ items₀ items₁ rows₀ rows₁ c d (λ out. out ++ (copyOf (λ i. getD images i 0) x ∷ [])) → x ≡ nodeAt ws n
+  pub copy-closes : {nodes₀ nodes₁ items₀ items₁ rows₀ rows₁ images : List ℕ} {c d : Cursor} (x : Node)
+      → (operator ws n ≡ 8 → closed (shape (right ws n)) ≡ true)
+      → GrowsOver (widthsOf ws) nodes₀ nodes₁ items₀ items₁ rows₀ rows₁ c d (λ out. out ++ (copyOf (λ i. getD images i 0) x ∷ []))
+      → x ≡ nodeAt ws n
       → Closes ws images n nodes₀ nodes₁ items₀ items₁ rows₀ rows₁ c d
   copy-closes {images} x e g q = record {
-    written = λ out copies page. rw (closed-copy (own ws (λ i. getD images i 0)) (left ws n) (right ws n) (kindOf (kind ws n)) (itemsOf ws n) out (operator ws n) (facts .low) (facts .high) e, ← q) (g out page);
+    written = λ out copies page. rw (copied out, ← q) (g out page);
     stays = over-stays (λ out. out ++ (copyOf (λ i. getD images i 0) x ∷ [])) (λ out. extends-one out _) g;
   }
+    where
+      copied : (out : List Node) → closing ws (λ i. getD images i 0) n out ≡ emit (copyOf (λ i. getD images i 0) (nodeAt ws n)) out
+      copied out =
+          closed-copy (own ws (λ i. getD images i 0)) (left ws n) (right ws n) (kindOf (kind ws n)) (itemsOf ws n) out
+          (operator ws n) (facts .low) (facts .high) e
 
   -- the right input of a dependent join
   right-low : operator ws n ≡ 8 → right ws n < n
@@ -147,9 +161,12 @@ module _ (ws : List ℕ) (a : Accepted ws) (n : ℕ) (h : n < nodes ws) where
     reads = readsAt ws (right ws n)
 
     -- the keys of its domain
-    pub keys-are : {d : code.Domain} (table : List ℕ) (set r : ℕ) → Means d outside → ReadsTable ws (nodes ws) table → r ≡ right ws n → KeySet d r table set → members set ≡ domainKeys outside w reads
-    keys-are table set r m read er keyed =
-        keyed ws outside w m (λ i l p g. read i l p (omega (arith, right-low eight))) (omega (arith, a .narrow (left ws n) (dependent-left ws (a .formed) n h eight))) (rw er (spotted ws a n h outside within eight))
+    pub keys-are : {d : code.Domain} (table : List ℕ) (set : ℕ) {r : ℕ} → Means d outside → ReadsTable ws (nodes ws) table → r ≡ right ws n
+        → KeySet d r table set → members set ≡ domainKeys outside w reads
+    keys-are table set m read er keyed =
+        keyed ws outside w m (λ i l p g. read i l p (omega (arith, right-low eight)))
+        (omega (arith, a .narrow (left ws n) (dependent-left ws (a .formed) n h eight)))
+        (rw er (spotted ws a n h outside within eight))
         ∙ ap (λ (k : ℕ). domainKeys outside w (readsAt ws k)) er
 
     module _ (images ks : List ℕ) (keys : ks ≡ domainKeys outside w reads) where
@@ -164,8 +181,12 @@ module _ (ws : List ℕ) (a : Accepted ws) (n : ℕ) (h : n < nodes ws) where
       abbrev under : List Node → Placed
       under out = put ws (λ j. getD images j 0) (suc (right ws n)) (right ws n) (innerDomain outside w reads (length out)) (front out)
 
-      target : (out : List Node) → closing ws (λ j. getD images j 0) n out .out ≡ withInner outside ks w (widthAt ws (right ws n)) at (under out .at) (nodeAt ws n) (under out .out)
-      target out = closed-inner (own ws (λ j. getD images j 0)) (left ws n) (right ws n) (kindOf (kind ws n)) (itemsOf ws n) out (operator ws n) eight opens ks keys (under out) refl
+      target : (out : List Node)
+          → closing ws (λ j. getD images j 0) n out .out
+          ≡ withInner outside ks w (widthAt ws (right ws n)) at (under out .at) (nodeAt ws n) (under out .out)
+      target out =
+          closed-inner (own ws (λ j. getD images j 0)) (left ws n) (right ws n) (kindOf (kind ws n)) (itemsOf ws n) out (operator ws n)
+          eight opens ks keys (under out) refl
 
       finished-behind : (more : List Node) (wl wr i j : ℕ) → Extends more (withInner outside ks wl wr i j (nodeAt ws n) more)
       finished-behind more wl wr i j = inner-extends outside ks wl wr i j (nodeAt ws n) more
@@ -174,9 +195,11 @@ module _ (ws : List ℕ) (a : Accepted ws) (n : ℕ) (h : n < nodes ws) where
       under-behind out = rw (target out) (finished-behind (under out .out) w (widthAt ws (right ws n)) at (under out .at))
 
       front-behind : (out : List Node) → Extends (front out) (closing ws (λ j. getD images j 0) n out .out)
-      front-behind out = extends-then (put-behind ws (λ j. getD images j 0) (suc (right ws n)) (right ws n) _ (front out)) (under-behind out)
+      front-behind out =
+          extends-then (put-behind ws (λ j. getD images j 0) (suc (right ws n)) (right ws n) _ (front out)) (under-behind out)
 
-      module _ {nodes₀ nodes₁ items₀ items₁ rows₀ rows₁ : List ℕ} {c g : Cursor} (i : ℕ) (ei : i ≡ at) (domain : Grows nodes₀ nodes₁ items₀ items₁ rows₀ rows₁ c g (λ out. out ++ (group ks [] i ∷ []))) where
+      module _ {nodes₀ nodes₁ items₀ items₁ rows₀ rows₁ : List ℕ} {c g : Cursor} {i : ℕ} (ei : i ≡ at)
+          (domain : Grows nodes₀ nodes₁ items₀ items₁ rows₀ rows₁ c g (λ out. out ++ (group ks [] i ∷ []))) where
         -- the domain is written
         domained : GrowsOver (widthsOf ws) nodes₀ nodes₁ items₀ items₁ rows₀ rows₁ c g front
         domained out page = rw ei at (domain (widthsOf ws) out page)
@@ -189,10 +212,13 @@ module _ (ws : List ℕ) (a : Accepted ws) (n : ℕ) (h : n < nodes ws) where
         }
 
         -- the right side is put under it, and the join written
-        module _ {nodes₂ nodes₃ items₂ items₃ rows₂ rows₃ : List ℕ} {y z : Cursor} {d : code.Domain} (ok : g .ok ≡ true) (node : ℕ) (en : node ≡ pred (g .nodes)) (means : Means d (innerDomain outside w reads node))
-            (r : ℕ) (er : r ≡ right ws n) (putting : Puts ws images r d nodes₁ nodes₂ items₁ items₂ rows₁ rows₂ g y)
-            (wl wr j : ℕ) (el : wl ≡ w) (ew : wr ≡ widthAt ws (right ws n)) (ej : j ≡ pred (y .nodes)) (joining : Grows nodes₂ nodes₃ items₂ items₃ rows₂ rows₃ y z (withInner outside ks wl wr i j (nodeAt ws n))) where
-          module _ (out : List Node) (copies : Copies ws (λ k. getD images k 0) n out) (page : Page (widthsOf ws) nodes₀ items₀ rows₀ c out []) where
+        module _ {nodes₂ nodes₃ items₂ items₃ rows₂ rows₃ : List ℕ} {y z : Cursor} {d : code.Domain} (ok : g .ok ≡ true)
+            {node : ℕ} (en : node ≡ pred (g .nodes)) (means : Means d (innerDomain outside w reads node))
+            {r : ℕ} (er : r ≡ right ws n) (putting : Puts ws images r d nodes₁ nodes₂ items₁ items₂ rows₁ rows₂ g y)
+            {wl wr j : ℕ} (el : wl ≡ w) (ew : wr ≡ widthAt ws (right ws n)) (ej : j ≡ pred (y .nodes))
+            (joining : Grows nodes₂ nodes₃ items₂ items₃ rows₂ rows₃ y z (withInner outside ks wl wr i j (nodeAt ws n))) where
+          module _ (out : List Node) (copies : Copies ws (λ k. getD images k 0) n out)
+              (page : Page (widthsOf ws) nodes₀ items₀ rows₀ c out []) where
             placed : Page (widthsOf ws) nodes₁ items₁ rows₁ g (front out) []
             placed = domained out page
 
@@ -203,7 +229,9 @@ module _ (ws : List ℕ) (a : Accepted ws) (n : ℕ) (h : n < nodes ws) where
             ready = record {
               domain = record {
                 inside = rw length-append (omega arith);
-                width = ap (λ (s : Shape). s .width) (entry-last shapeless (shapeOf (widthsOf ws)) out (group ks [] at)) ∙ add-zero (length ks) ∙ ap length keys;
+                width = ap (λ (s : Shape). s .width) (entry-last shapeless (shapeOf (widthsOf ws)) out (group ks [] at))
+                    ∙ add-zero (length ks)
+                    ∙ ap length keys;
               };
               copies = λ k l e. stands-more (extends-one out _) (copies k (omega (arith, right-low eight)) e);
             }
@@ -211,16 +239,19 @@ module _ (ws : List ℕ) (a : Accepted ws) (n : ℕ) (h : n < nodes ws) where
             put-page : Page (widthsOf ws) nodes₂ items₂ rows₂ y (under out .out) []
             put-page =
                 let p : Puts ws images (right ws n) d nodes₁ nodes₂ items₁ items₂ rows₁ rows₂ g y = rw er at putting in
-                p .written (innerDomain outside w reads (length out)) (front out) (rw last at means) (inner-within ws a n h outside within eight (length out)) ready placed
+                p .written (innerDomain outside w reads (length out)) (front out) (rw last at means)
+                (inner-within ws a n h outside within eight (length out)) ready placed
 
             -- the right side is the last node
             right-last : y .ok ≡ true → j ≡ under out .at
             right-last e =
-                last-is (under out) put-page (put-end ws (a .formed) (λ k. getD images k 0) (right ws n) (dependent-right ws (a .formed) n h eight) (innerDomain outside w reads (length out)) (front out)) e ej
+                last-is (under out) put-page
+                (put-end ws (a .formed) (λ k. getD images k 0) (right ws n) (dependent-right ws (a .formed) n h eight)
+                (innerDomain outside w reads (length out)) (front out)) e ej
 
             join-page : Page (widthsOf ws) nodes₃ items₃ rows₃ z (closing ws (λ k. getD images k 0) n out .out) []
             join-page =
-                page-then (widthsOf ws) nodes₂ nodes₃ items₂ items₃ rows₂ rows₃ y z (withInner outside ks wl wr i j (nodeAt ws n)) (under out .out) (closing ws (λ k. getD images k 0) n out .out) joining put-page
+                page-then (withInner outside ks wl wr i j (nodeAt ws n)) joining put-page
                 (finished-behind (under out .out) wl wr i j) (under-behind out) (λ e. rw (ei, el, ew, right-last e) (sym (target out)))
 
           pub inner-closes : Closes ws images n nodes₀ nodes₃ items₀ items₃ rows₀ rows₃ c z

@@ -8,12 +8,15 @@ use lib.Dec.{eqb, ltb}
 use lib.ListN.{length}
 use borrow.Author.Tests.{eq-eqb, lt-ltb, ltb-true}
 use Rattle.algebra.specs.Lists.{Every, all, any, done, each, isEmpty, more, upto}
-use Rattle.algebra.specs.Plan.{Aggregate, Computation, Conjunct, Node, Term, add, column, compute, constant, copy, count, dependent, group, groupjoin, inputs, join, maximum, minimum, nothing, outer, project, scan, select, subtract, sum}
+use Rattle.algebra.specs.Plan.{Aggregate, Computation, Conjunct, Node, Term, add, column, compute, constant, copy, count, dependent}
+use Rattle.algebra.specs.Plan.{group, groupjoin, inputs, join, maximum, minimum, nothing, outer, project, scan, select, subtract, sum}
 use Rattle.algebra.specs.Columns.{Column, computationReads, conjunctReads, past, pastOne, readsOf, termReads}
-use Rattle.algebra.specs.Domains.{Domain, around, below, domainFirst, domainKeys, innerDomain, inside, match, moveAggregate, moveComputation, moveConjunct, moveTerm, shift, shiftBoth, span, spot, underBoth, underInner}
+use Rattle.algebra.specs.Domains.{Domain, around, below, domainFirst, domainKeys, innerDomain, inside, match, moveAggregate}
+use Rattle.algebra.specs.Domains.{moveComputation, moveConjunct, moveTerm, shift, shiftBoth, span, spot, underBoth, underInner}
 use Rattle.algebra.specs.Statements.{InLeft}
 use Rattle.algebra.proofs.Lists.Same.{and-left, and-right, and-both}
-use Rattle.algebra.proofs.Lists.Every.{any-none, any-self, every-append, every-back, every-both, every-front, every-head, every-keep, every-map, every-mapped, every-tail, every-uneach, every-unkeep}
+use Rattle.algebra.proofs.Lists.Every.{any-none, any-self, every-append, every-back, every-both, every-front}
+use Rattle.algebra.proofs.Lists.Every.{every-head, every-keep, every-map, every-mapped, every-tail, every-uneach, every-unkeep}
 use Rattle.algebra.proofs.Tables.Tidy.{closed-back, closed-front}
 use Rattle.algebra.proofs.Domains.Keys.{rank-below, ranks, upto-all, upto-below}
 use Rattle.plan.specs.Verdict.{aggregateThere, columnsThere, computationThere, conjunctThere, termThere}
@@ -60,10 +63,12 @@ both-below w v a b p h = go (ltb p w) refl
 pub first-there : (D : Domain) (w : ℕ) (ps : List ℕ) → all (λ p. ltb p w) ps ≡ true → all (λ p. ltb p (D .width + w)) (domainFirst D ps) ≡ true
 first-there D w ps e =
     columns-all (D .width + w)
-    (every-append (every-map (λ p (h : p < D .width). omega arith) (upto-below (D .width))) (every-mapped (shift (D .width)) (every-map (λ p (h : p < w). omega arith) (columns-every w ps e))))
+    (every-append (every-map (λ p (h : p < D .width). omega arith) (upto-below (D .width)))
+    (every-mapped (shift (D .width)) (every-map (λ p (h : p < w). omega arith) (columns-every w ps e))))
 
 -- aggregates of columns that move
-pub aggregates-moved : (f : ℕ → ℕ) (w v : ℕ) → ((p : ℕ) → p < w → f p < v) → (gs : List Aggregate) → all (aggregateThere w) gs ≡ true → all (aggregateThere v) (map (moveAggregate f) gs) ≡ true
+pub aggregates-moved : (f : ℕ → ℕ) (w v : ℕ) → ((p : ℕ) → p < w → f p < v) → (gs : List Aggregate) → all (aggregateThere w) gs ≡ true
+    → all (aggregateThere v) (map (moveAggregate f) gs) ≡ true
 unfolding aggregateThere
 aggregates-moved f w v h gs e = all-of (aggregateThere v) (every-mapped (moveAggregate f) (every-map one (every-all (aggregateThere w) gs e)))
   where
@@ -90,14 +95,16 @@ module _ (D : Domain) (f : ℕ → ℕ) (scope : List ℕ) (w v : ℕ) (local : 
   term-moved nothing e h = refl
 
   -- two terms
-  two-moved : (a b : Term) → (termThere scope w a && termThere scope w b) ≡ true → Held D (termReads a ++ termReads b) → (termThere [] v (moveTerm D f a) && termThere [] v (moveTerm D f b)) ≡ true
+  two-moved : (a b : Term) → (termThere scope w a && termThere scope w b) ≡ true → Held D (termReads a ++ termReads b)
+      → (termThere [] v (moveTerm D f a) && termThere [] v (moveTerm D f b)) ≡ true
   two-moved a b e h =
       and-both (termThere [] v (moveTerm D f a)) (termThere [] v (moveTerm D f b))
       (term-moved a (and-left (termThere scope w a) _ e) (every-front (termReads a) _ h))
       (term-moved b (and-right (termThere scope w a) _ e) (every-back (termReads a) _ h))
 
   -- conjuncts
-  pub conjuncts-moved : (cs : List Conjunct) → all (conjunctThere scope w) cs ≡ true → Held D (each conjunctReads cs) → all (conjunctThere [] v) (map (moveConjunct D f) cs) ≡ true
+  pub conjuncts-moved : (cs : List Conjunct) → all (conjunctThere scope w) cs ≡ true → Held D (each conjunctReads cs)
+      → all (conjunctThere [] v) (map (moveConjunct D f) cs) ≡ true
   conjuncts-moved [] e h = refl
   conjuncts-moved (c ∷ cs) e h =
       and-both (conjunctThere [] v (moveConjunct D f c)) (all (conjunctThere [] v) (map (moveConjunct D f) cs))
@@ -105,7 +112,8 @@ module _ (D : Domain) (f : ℕ → ℕ) (scope : List ℕ) (w v : ℕ) (local : 
       (conjuncts-moved cs (and-right (conjunctThere scope w c) _ e) (every-back (conjunctReads c) _ h))
 
   -- a computation
-  pub computation-moved : (c : Computation) → computationThere scope w c ≡ true → Held D (computationReads c) → computationThere [] v (moveComputation D f c) ≡ true
+  pub computation-moved : (c : Computation) → computationThere scope w c ≡ true → Held D (computationReads c)
+      → computationThere [] v (moveComputation D f c) ≡ true
   unfolding computationThere
   computation-moved (copy a) e h = term-moved a e h
   computation-moved (add a b) e h = two-moved a b e h
@@ -117,7 +125,8 @@ unfolding termThere
 match-there f g v done = refl
 match-there f g v (more {x} h t) = rw (lt-ltb (f x) v (h .0), lt-ltb (g x) v (h .1)) (match-there f g v t)
 
-module _ (D : Domain) (scope : List ℕ) (w v : ℕ) (cs : List Conjunct) (e : all (conjunctThere scope (w + v)) cs ≡ true) (h : Held D (each conjunctReads cs)) where
+module _ (D : Domain) (scope : List ℕ) (w v : ℕ) (cs : List Conjunct) (e : all (conjunctThere scope (w + v)) cs ≡ true)
+    (h : Held D (each conjunctReads cs)) where
   -- the conjuncts of a join whose right is closed
   pub left-there : all (conjunctThere [] (D .width + w + v)) (map (moveConjunct D (shift (D .width))) cs) ≡ true
   left-there = conjuncts-moved D (shift (D .width)) scope (w + v) (D .width + w + v) (λ p g. omega arith) (omega arith) cs e h
@@ -134,7 +143,8 @@ module _ (D : Domain) (scope : List ℕ) (w v : ℕ) (cs : List Conjunct) (e : a
       → all (conjunctThere [] (D .width + w + (length ks + v))) (underInner D w ks cs) ≡ true
   inner-there ks low ranked =
       all-both (conjunctThere [] (D .width + w + (length ks + v))) (match (λ q. q) (λ q. D .width + w + below ks q) ks) _
-      (match-there _ _ _ (every-map (λ q (g : (q < D .width + w) × (below ks q < length ks)). (omega (arith, g .0), omega (arith, g .1))) (every-both low ranked)))
+      (match-there _ _ _ (every-map (λ q (g : (q < D .width + w) × (below ks q < length ks)). (omega (arith, g .0), omega (arith, g .1)))
+      (every-both low ranked)))
       (conjuncts-moved D (shiftBoth w (D .width) (length ks)) scope (w + v) _ (both-below w v (D .width) (length ks)) (omega arith) cs e h)
 
 -- ---- the domain of a right side
@@ -158,7 +168,8 @@ module _ (D : Domain) (w : ℕ) (reads : List Column) where
   inner-held g il h =
       every-map one
       (every-both (every-both il (every-uneach _ reads h))
-      (any-self (λ c e. eqb (spot D (c .level) (c .position)) (spot D (e .level) (e .position))) (λ c. eq-eqb (spot D (c .level) (c .position)) (spot D (c .level) (c .position)) refl) reads))
+      (any-self (λ c e. eqb (spot D (c .level) (c .position)) (spot D (e .level) (e .position)))
+      (λ c. eq-eqb (spot D (c .level) (c .position)) (spot D (c .level) (c .position)) refl) reads))
     where
       wanted : ℕ → Bool
       wanted q = any (λ c. eqb q (spot D (c .level) (c .position))) reads
@@ -166,11 +177,13 @@ module _ (D : Domain) (w : ℕ) (reads : List Column) where
       one : (c : Column) → ((InLeft w (c .level) (c .position) × Held D (pastOne (c .level) (c .position))) × (wanted (spot D (c .level) (c .position)) ≡ true))
           → innerDomain D w reads g .place (c .level) (c .position) < innerDomain D w reads g .width
       one c t =
-          upto-all (D .width + w) (every-unkeep wanted (upto (D .width + w)) keys-ranked) (spot D (c .level) (c .position)) (spot-below (c .level) (c .position) (t .0 .0) (t .0 .1)) (t .1)
+          upto-all (D .width + w) (every-unkeep wanted (upto (D .width + w)) keys-ranked) (spot D (c .level) (c .position))
+          (spot-below (c .level) (c .position) (t .0 .0) (t .0 .1)) (t .1)
 
 -- a right side that does not read its left row stays under D
 pub inside-held : (D : Domain) (reads : List Column) → any (λ c. eqb (c .level) 0) reads ≡ false → Held D (past reads) → Held (inside D) reads
-inside-held D reads e h = every-map (λ c t. one (c .level) (c .position) (t .0) (t .1)) (every-both (any-none (λ c. eqb (c .level) 0) reads e) (every-uneach _ reads h))
+inside-held D reads e h =
+    every-map (λ c t. one (c .level) (c .position) (t .0) (t .1)) (every-both (any-none (λ c. eqb (c .level) 0) reads e) (every-uneach _ reads h))
   where
     one : (l p : ℕ) → eqb l 0 ≡ false → Held D (pastOne l p) → inside D .place l p < D .width
     one zero p t g = absurd (true≢false t)
@@ -188,10 +201,12 @@ module _ (scope : List ℕ) (w : ℕ) where
   term-closed nothing c e = refl
 
   -- two terms
-  two-closed : (a b : Term) → isEmpty (termReads a ++ termReads b) ≡ true → (termThere scope w a && termThere scope w b) ≡ true → (termThere [] w a && termThere [] w b) ≡ true
+  two-closed : (a b : Term) → isEmpty (termReads a ++ termReads b) ≡ true → (termThere scope w a && termThere scope w b) ≡ true
+      → (termThere [] w a && termThere [] w b) ≡ true
   two-closed a b c e =
       and-both (termThere [] w a) (termThere [] w b)
-      (term-closed a (closed-front (termReads a) _ c) (and-left (termThere scope w a) _ e)) (term-closed b (closed-back (termReads a) _ c) (and-right (termThere scope w a) _ e))
+      (term-closed a (closed-front (termReads a) _ c) (and-left (termThere scope w a) _ e))
+      (term-closed b (closed-back (termReads a) _ c) (and-right (termThere scope w a) _ e))
 
   -- conjuncts
   conjuncts-closed : (cs : List Conjunct) → isEmpty (each conjunctReads cs) ≡ true → all (conjunctThere scope w) cs ≡ true → all (conjunctThere [] w) cs ≡ true
@@ -209,7 +224,8 @@ module _ (scope : List ℕ) (w : ℕ) where
   computation-closed (subtract a b) c e = two-closed a b c e
 
 -- a closed node has its columns wherever it stands
-pub columns-closed : (width : ℕ → ℕ) (scope : List ℕ) (at : ℕ → List Column) (n : Node) → isEmpty (readsOf at n) ≡ true → columnsThere width scope n ≡ true → columnsThere width [] n ≡ true
+pub columns-closed : (width : ℕ → ℕ) (scope : List ℕ) (at : ℕ → List Column) (n : Node) → isEmpty (readsOf at n) ≡ true → columnsThere width scope n ≡ true
+    → columnsThere width [] n ≡ true
 unfolding columnsThere
 columns-closed width scope at (scan t) c e = refl
 columns-closed width scope at (select cs i) c e = conjuncts-closed scope _ cs (closed-front (each conjunctReads cs) _ c) e
@@ -219,7 +235,8 @@ columns-closed width scope at (join k cs l r) c e = conjuncts-closed scope _ cs 
 columns-closed width scope at (group ks gs i) c e = e
 columns-closed width scope at (groupjoin cs gs l r) c e =
     and-both (all (conjunctThere [] (width l + width r)) cs) (all (aggregateThere (width r)) gs)
-    (conjuncts-closed scope _ cs (closed-front (each conjunctReads cs) _ c) (and-left (all (conjunctThere scope (width l + width r)) cs) _ e)) (and-right (all (conjunctThere scope (width l + width r)) cs) _ e)
+    (conjuncts-closed scope _ cs (closed-front (each conjunctReads cs) _ c) (and-left (all (conjunctThere scope (width l + width r)) cs) _ e))
+    (and-right (all (conjunctThere scope (width l + width r)) cs) _ e)
 columns-closed width scope at (dependent k cs l r) c e = conjuncts-closed scope _ cs (closed-front (each conjunctReads cs) _ c) e
 
 -- a node looks only at its inputs' widths

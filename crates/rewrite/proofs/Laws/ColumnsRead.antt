@@ -13,7 +13,8 @@ use Rattle.algebra.specs.Columns.{Column, termReads, conjunctReads, computation
 use Rattle.algebra.proofs.Lists.Same.{and-left, and-right}
 use Rattle.algebra.proofs.Lists.Every.{every-append, every-map, every-each}
 use Rattle.plan.specs.Words.{Three, Item, nodes, operator, left, right, kind, itemsOf}
-use Rattle.plan.specs.Items.{termOf, conjunctOf, computationOf, isConjunct, isComputation, isKey, isOutput, isAggregate, conjunctsIn, termRight, isLocal, isUnused, conjunctRight, computationRight, keyRight, outputRight, aggregateRight}
+use Rattle.plan.specs.Items.{termOf, conjunctOf, computationOf, isConjunct, isComputation, isKey, isOutput, isAggregate}
+use Rattle.plan.specs.Items.{conjunctsIn, termRight, isLocal, isUnused, conjunctRight, computationRight, keyRight, outputRight, aggregateRight}
 use Rattle.plan.specs.Plan.{computationIn, nodeFor, kindOf}
 use Rattle.plan.specs.Verdict.{hasRight, itemsRight}
 use Rattle.plan.specs.Promise.{Formed}
@@ -44,7 +45,8 @@ pub reads-past : (cs : List Column) (l p : ℕ) → reads (past cs) l p ≡ read
 reads-past [] l p = refl
 reads-past (c ∷ cs) l p = reads-append (pastOne (c .level) (c .position)) (past cs) l p ∙ go (c .level) (c .position) (reads-past cs l p)
   where
-    go : (k r : ℕ) → reads (past cs) l p ≡ reads cs (suc l) p → (reads (pastOne k r) l p || reads (past cs) l p) ≡ cond (eqb k (suc l) && eqb r p) true (reads cs (suc l) p)
+    go : (k r : ℕ) → reads (past cs) l p ≡ reads cs (suc l) p
+        → (reads (pastOne k r) l p || reads (past cs) l p) ≡ cond (eqb k (suc l) && eqb r p) true (reads cs (suc l) p)
     go zero r e = rw (eqb·zero-suc l) e
     go (suc k) r e = rw (eqb·suc-suc k l, cond-or (eqb k l && eqb r p) false, or-false, cond-or (eqb k l && eqb r p) (reads cs (suc l) p), e)
 
@@ -87,7 +89,8 @@ three-reads t l p = go (eqb (t .code) 1) refl
     go false e = rw (inner-none t e)
 
 pub item-reads : (x : Item) (l p : ℕ) → reads (itemReads x) l p ≡ (termRead (x .first) l p || termRead (x .second) l p)
-item-reads x l p = reads-append (termReads (termOf (x .first))) (termReads (termOf (x .second))) l p ∙ ap₂ _||_ (three-reads (x .first) l p) (three-reads (x .second) l p)
+item-reads x l p =
+    reads-append (termReads (termOf (x .first))) (termReads (termOf (x .second))) l p ∙ ap₂ _||_ (three-reads (x .first) l p) (three-reads (x .second) l p)
 
 local-none : (t : Three) → isLocal t ≡ true → termReads (termOf t) ≡ []
 local-none t e = inner-none t (rw (eqb-true (t .code) 0 (and-left (eqb (t .code) 0) (eqb (t .level) 0) e)))
@@ -137,7 +140,8 @@ unfolding computationOf
 computation-reads x e = go (eqb (x .tag) 8) (eqb (x .tag) 9) (and-right (termRight (x .first)) _ (and-right (isComputation x) _ e))
   where
     go : (a b : Bool) → cond a (isUnused (x .second)) (termRight (x .second)) ≡ true
-        → computationReads (cond a (copy (termOf (x .first))) (cond b (add (termOf (x .first)) (termOf (x .second))) (subtract (termOf (x .first)) (termOf (x .second))))) ≡ itemReads x
+        → computationReads (cond a (copy (termOf (x .first)))
+        (cond b (add (termOf (x .first)) (termOf (x .second))) (subtract (termOf (x .first)) (termOf (x .second))))) ≡ itemReads x
     go true b h = rw (unused-none (x .second) h) (sym (append-nil _))
     go false true h = refl
     go false false h = refl
@@ -163,8 +167,10 @@ module _ (at : ℕ → List Column) (l r : ℕ) (k : Kind) (xs : List Item) wher
       (λ e. front _ (compute-reads xs (eqb-true _ _ (and-left (eqb (length xs) 1) _ e)) (and-right (eqb (length xs) 1) _ e)))
       (λ e. front _ (sym (silent-all (all-every outputRight output-silent xs (and-right (not (isEmpty xs)) _ e)))))
       (λ e. front _ (conjuncts e))
-      (λ e. front _ (sym (silent-all (front-every keyRight aggregateRight key-silent aggregate-silent (length (keep isKey xs)) xs (and-right (not (isEmpty xs)) _ e)))))
-      (λ e. front _ (conjuncts-reads (front-every conjunctRight aggregateRight conjunct-quiet (λ x h q. aggregate-silent x h) (length (keep isConjunct xs)) xs (and-right (ltb (length (keep isConjunct xs)) (length xs)) _ e))))
+      (λ e. front _ (sym (silent-all (front-every keyRight aggregateRight key-silent aggregate-silent (length (keep isKey xs)) xs
+      (and-right (not (isEmpty xs)) _ e)))))
+      (λ e. front _ (conjuncts-reads (front-every conjunctRight aggregateRight conjunct-quiet (λ x h q. aggregate-silent x h)
+      (length (keep isConjunct xs)) xs (and-right (ltb (length (keep isConjunct xs)) (length xs)) _ e))))
       (λ e. front _ (conjuncts e))
     where
       nothing : (ys : List Item) → isEmpty ys ≡ true → [] ≡ each itemReads ys ++ []

@@ -27,7 +27,8 @@ module _ (widths : List ℕ) where
   -- nodes written one behind the other, each with its inputs before it and its columns in their rows
   pub data Sound : List Node → Type 0 where
     no-node : Sound []
-    one-more : (out : List Node) (n : Node) → Sound out → Every (λ j. j < length out) (inputs n) → columnsThere (widthIn out) [] n ≡ true → Sound (out ++ (n ∷ []))
+    one-more : (out : List Node) (n : Node) → Sound out → Every (λ j. j < length out) (inputs n) → columnsThere (widthIn out) [] n ≡ true
+        → Sound (out ++ (n ∷ []))
 
   -- more nodes behind those of out
   pub record Grows (out more : List Node) : Type 0 where
@@ -43,7 +44,8 @@ module _ (widths : List ℕ) where
   -- a piece: its copy where it is closed, and what it writes under a domain that holds what it reads
   pub record Sits (out : List Node) (p : Piece) : Type 0 where
     pub copied : isEmpty (p .shape .reads) ≡ true → Stands widths out (p .image) (p .shape .width)
-    pub puts : (D : Domain) (more : List Node) → Grows out more → Stands widths more (D .node) (D .width) → Held D (p .shape .reads) → Wrote more (p .put D more) (D .width + p .shape .width)
+    pub puts : (D : Domain) (more : List Node) → Grows out more → Stands widths more (D .node) (D .width) → Held D (p .shape .reads)
+        → Wrote more (p .put D more) (D .width + p .shape .width)
 
 module _ {widths : List ℕ} where
   -- nothing more
@@ -69,7 +71,8 @@ module _ {widths : List ℕ} where
   sits-grows e s = record { copied = λ c. stands-grows e (s .copied c); puts = λ D m f h. s .puts D m (grows-both e f) h }
 
   -- one more node
-  pub wrote : (out : List Node) (n : Node) (w : ℕ) → Every (λ j. j < length out) (inputs n) → columnsThere (widthIn widths out) [] n ≡ true → widthOf widths (widthIn widths out) n ≡ w → Wrote widths out (emit n out) w
+  pub wrote : (out : List Node) (n : Node) (w : ℕ) → Every (λ j. j < length out) (inputs n) → columnsThere (widthIn widths out) [] n ≡ true
+      → widthOf widths (widthIn widths out) n ≡ w → Wrote widths out (emit n out) w
   wrote out n w b c e = record {
     grows = record { rest = n ∷ []; is = refl; keeps = λ t. one-more out n t b c };
     has = record { inside = rw length-append (omega arith); width = ap (λ (r : Shape). r .width) (entry-last shapeless (shapeOf widths) out n) ∙ e };
@@ -84,26 +87,31 @@ module _ {widths : List ℕ} where
   wrote-width e s = rw e at s
 
   -- the project that drops the columns between
-  wrote-project : (n m w : ℕ) (out : List Node) (x : Placed) → Wrote widths out x (n + (m + w)) → Wrote widths out (emit (project (around n m w) (x .at)) (x .out)) (n + w)
+  wrote-project : (n m w : ℕ) (out : List Node) (x : Placed) → Wrote widths out x (n + (m + w))
+      → Wrote widths out (emit (project (around n m w) (x .at)) (x .out)) (n + w)
   unfolding columnsThere
   wrote-project n m w out x s =
-      wrote-after (s .grows) (wrote (x .out) _ _ (more (s .has .inside) done) (rw (s .has .width) (around-there n m w)) (simp (length-append, length-map, length-upto)))
+      wrote-after (s .grows)
+      (wrote (x .out) _ _ (more (s .has .inside) done) (rw (s .has .width) (around-there n m w)) (simp (length-append, length-map, length-upto)))
 
   -- it stands behind an inner or an outer join
-  pub wrote-dropping : (k : Kind) (n m w : ℕ) (out : List Node) (x : Placed) → Wrote widths out x (joinWidth k n (m + w)) → Wrote widths out (dropping k (around n m w) x) (joinWidth k n w)
+  pub wrote-dropping : (k : Kind) (n m w : ℕ) (out : List Node) (x : Placed) → Wrote widths out x (joinWidth k n (m + w))
+      → Wrote widths out (dropping k (around n m w) x) (joinWidth k n w)
   wrote-dropping inner n m w out x s = wrote-project n m w out x s
   wrote-dropping semi n m w out x s = s
   wrote-dropping anti n m w out x s = s
   wrote-dropping left-outer n m w out x s = wrote-project n m w out x s
 
   -- a join of two nodes in place
-  pub wrote-join : (k : Kind) (cs : List Conjunct) (n m i j : ℕ) (out : List Node) → Stands widths out i n → Stands widths out j m → all (conjunctThere [] (n + m)) cs ≡ true → Wrote widths out (emit (join k cs i j) out) (joinWidth k n m)
+  pub wrote-join : (k : Kind) (cs : List Conjunct) (n m i j : ℕ) (out : List Node) → Stands widths out i n → Stands widths out j m
+      → all (conjunctThere [] (n + m)) cs ≡ true → Wrote widths out (emit (join k cs i j) out) (joinWidth k n m)
   unfolding columnsThere
   wrote-join k cs n m i j out s t e = wrote out _ _ (more (s .inside) (more (t .inside) done)) (rw (s .width, t .width) e) (rw (s .width, t .width))
 
 module _ (widths : List ℕ) where
   -- a closed piece writes the join of a domain with its copy
-  pub sits-closed : (out : List Node) (sh : Shape) (i : ℕ) → Stands widths out i (sh .width) → Sits widths out (record { shape = sh; image = i; put = closedPut i })
+  pub sits-closed : (out : List Node) (sh : Shape) (i : ℕ) → Stands widths out i (sh .width)
+      → Sits widths out (record { shape = sh; image = i; put = closedPut i })
   sits-closed out sh i s = record {
     copied = λ c. s;
     puts = λ D more f d h. wrote-join inner [] (D .width) (sh .width) (D .node) i more d (stands-grows f s) refl;
@@ -115,7 +123,8 @@ module _ (widths : List ℕ) where
     sh i = at i .shape
 
     -- a dependent join, its left in place: a new domain, the right under it, a join
-    pub wrote-unnest : (D : Domain) (kind : Kind) (cs : List Conjunct) (scope : List ℕ) (l r : ℕ) → r < count → Every (λ e. InLeft (sh l .width) (e .level) (e .position)) (sh r .reads)
+    pub wrote-unnest : (D : Domain) (kind : Kind) (cs : List Conjunct) (scope : List ℕ) (l r : ℕ) → r < count
+        → Every (λ e. InLeft (sh l .width) (e .level) (e .position)) (sh r .reads)
         → all (conjunctThere scope (sh l .width + sh r .width)) cs ≡ true → Held D (each conjunctReads cs) → Held D (past (sh r .reads))
         → (x : Placed) → Grows widths out (x .out) → Stands widths (x .out) (x .at) (D .width + sh l .width)
         → Wrote widths (x .out) (unnest kind cs (at l) (at r) D x) (joinWidth kind (D .width + sh l .width) (sh r .width))
@@ -124,7 +133,8 @@ module _ (widths : List ℕ) where
         wrote-dropping kind (D .width + sh l .width) (length ks) (sh r .width) (x .out) _
         (wrote-after e
         (wrote-join kind (underInner D (sh l .width) ks cs) (D .width + sh l .width) (length ks + sh r .width) (x .at) _ _ (stands-grows e sx) (right .has)
-        (inner-there D scope (sh l .width) (sh r .width) cs there hc ks (keys-below D (sh l .width) (sh r .reads)) (keys-ranked D (sh l .width) (sh r .reads)))))
+        (inner-there D scope (sh l .width) (sh r .width) cs there hc ks (keys-below D (sh l .width) (sh r .reads))
+        (keys-ranked D (sh l .width) (sh r .reads)))))
       where
         ks : List ℕ
         ks = domainKeys D (sh l .width) (sh r .reads)

@@ -62,7 +62,8 @@ Single o = ((Unit × (o ≡ 1 → ⊥)) × ((o ≡ 5) ⊎ (o ≡ 8) → ⊥)) ×
 -- what is written of a node but its items
 abbrev Written : List ℕ → Head → ℕ → Node → Type 0
 Written widths head extra n =
-    (head .operator ≡ parts n .operator) × (head .left ≡ parts n .left) × (head .right ≡ parts n .right) × (head .kind ≡ parts n .kind) × (extra ≡ extraOf widths n)
+    (head .operator ≡ parts n .operator) × (head .left ≡ parts n .left) × (head .right ≡ parts n .right)
+    × (head .kind ≡ parts n .kind) × (extra ≡ extraOf widths n)
 
 module _ (widths : List ℕ) (images : ℕ → ℕ) (l r k : ℕ) (xs : List Item) where
   -- the copy of a node with operator o and these inputs, kind and items
@@ -73,12 +74,14 @@ module _ (widths : List ℕ) (images : ℕ → ℕ) (l r k : ℕ) (xs : List Ite
   unfolding nodeFor
   scan-head o extra e f = rw e (refl, refl, refl, refl, f)
 
-  join-head : (o : ℕ) → (o ≡ 5) ⊎ (o ≡ 8) → k ≡ kindWord (kindOf k) → Written widths (record { operator = 5; left = images l; right = images r; kind = k }) 0 (copy o)
+  join-head : (o : ℕ) → (o ≡ 5) ⊎ (o ≡ 8) → k ≡ kindWord (kindOf k)
+      → Written widths (record { operator = 5; left = images l; right = images r; kind = k }) 0 (copy o)
   unfolding nodeFor
   join-head o (inl e) f = rw e (refl, refl, refl, f, refl)
   join-head o (inr e) f = rw e (refl, refl, refl, f, refl)
 
-  groupjoin-head : (o extra : ℕ) → o ≡ 7 → extra ≡ length (keep isAggregate xs) → Written widths (record { operator = 7; left = images l; right = images r; kind = 0 }) extra (copy o)
+  groupjoin-head : (o extra : ℕ) → o ≡ 7 → extra ≡ length (keep isAggregate xs)
+      → Written widths (record { operator = 7; left = images l; right = images r; kind = 0 }) extra (copy o)
   unfolding nodeFor
   groupjoin-head o extra e f = rw e (refl, refl, refl, refl, f ∙ sym (length-map (keep isAggregate xs) aggregateOf))
 
@@ -86,7 +89,8 @@ module _ (widths : List ℕ) (images : ℕ → ℕ) (l r k : ℕ) (xs : List Ite
   unfolding nodeFor
   single-head =
       by-operator (λ o. Single o → Written widths (record { operator = o; left = images l; right = 0; kind = 0 }) 0 (copy o))
-      (λ h. absurd (h .0 .0 .1 refl)) (λ h. same) (λ h. same) (λ h. same) (λ h. absurd (h .0 .1 (inl refl))) (λ h. same) (λ h. absurd (h .1 refl)) (λ h. absurd (h .0 .1 (inr refl)))
+      (λ h. absurd (h .0 .0 .1 refl)) (λ h. same) (λ h. same) (λ h. same) (λ h. absurd (h .0 .1 (inl refl))) (λ h. same) (λ h. absurd (h .1 refl))
+      (λ h. absurd (h .0 .1 (inr refl)))
     where
       same : {o i v : ℕ} → (o ≡ o) × (i ≡ i) × (v ≡ v) × (v ≡ v) × (v ≡ v)
       same = (refl, refl, refl, refl, refl)
@@ -115,15 +119,18 @@ module _ (ws : List ℕ) (a : Accepted ws) (n : ℕ) (h : n < nodes ws) where
         (copied-items images (nodeAt ws n)
         ∙ node-items (nodeAt ws n)
         ∙ ap (map itemWords)
-        (items-again (left ws n) (right ws n) (kindOf (kind ws n)) (itemsOf ws n) (narrow ws (all-small ws small) n) (operator ws n) (facts .low) (facts .high) (facts .sorts)))
+        (items-again (left ws n) (right ws n) (kindOf (kind ws n)) (itemsOf ws n) (narrow ws (all-small ws small) n) (operator ws n) (facts .low)
+        (facts .high) (facts .sorts)))
 
-    module _ {nodes₀ nodes₁ items₀ items₁ rows₀ rows₁ : List ℕ} {c d e : Cursor} (o l x y : ℕ) (eo : o ≡ operator ws n) (el : l ≡ left ws n) (ex : x ≡ firstItem ws n) (ey : y ≡ itemCount ws n)
+    module _ {nodes₀ nodes₁ items₀ items₁ rows₀ rows₁ : List ℕ} {c d e : Cursor} (o l x y : ℕ) (eo : o ≡ operator ws n) (el : l ≡ left ws n)
+        (ex : x ≡ firstItem ws n) (ey : y ≡ itemCount ws n)
         (added : Added items₀ items₁ c d (map itemWords (itemsFrom ws x y))) where
       -- the items were added, and the node is pushed
       copied : (head : Head) (extra : ℕ) → Written (widthsOf ws) head extra written → Pushed nodes₀ nodes₁ rows₀ rows₁ d e (c .items) head extra
           → GrowsOver (widthsOf ws) nodes₀ nodes₁ items₀ items₁ rows₀ rows₁ c e (λ out. out ++ (written ∷ []))
       copied head extra (f, g, p, q, r) pushed out page =
-          let more : Page (widthsOf ws) nodes₀ items₁ rows₀ d out (map itemWords (itemsOf ws n)) = rw (ex, ey) at (added (widthsOf ws) nodes₀ rows₀ out [] page) in
+          let more : Page (widthsOf ws) nodes₀ items₁ rows₀ d out (map itemWords (itemsOf ws n)) =
+          rw (ex, ey) at (added (widthsOf ws) nodes₀ rows₀ out [] page) in
           pushed (widthsOf ws) items₁ out written (rw copy-items at more) (record {
             operator = f;
             left = g;
@@ -134,7 +141,8 @@ module _ (ws : List ℕ) (a : Accepted ws) (n : ℕ) (h : n < nodes ws) where
           })
 
       -- by its operator
-      pub copied-scan : (extra : ℕ) → o ≡ 1 → extra ≡ tableWidth ws l → Pushed nodes₀ nodes₁ rows₀ rows₁ d e (c .items) (record { operator = 1; left = l; right = 0; kind = 0 }) extra
+      pub copied-scan : (extra : ℕ) → o ≡ 1 → extra ≡ tableWidth ws l
+          → Pushed nodes₀ nodes₁ rows₀ rows₁ d e (c .items) (record { operator = 1; left = l; right = 0; kind = 0 }) extra
           → GrowsOver (widthsOf ws) nodes₀ nodes₁ items₀ items₁ rows₀ rows₁ c e (λ out. out ++ (written ∷ []))
       copied-scan extra q w =
           let f : operator ws n ≡ 1 = sym eo ∙ q in
@@ -157,10 +165,13 @@ module _ (ws : List ℕ) (a : Accepted ws) (n : ℕ) (h : n < nodes ws) where
           → GrowsOver (widthsOf ws) nodes₀ nodes₁ items₀ items₁ rows₀ rows₁ c e (λ out. out ++ (written ∷ []))
       copied-groupjoin i r j extra q ei er ej w =
           copied _ extra
-          (rw (ei, el, ej, er) (groupjoin-head (widthsOf ws) images (left ws n) (right ws n) (kind ws n) (itemsOf ws n) (operator ws n) extra (sym eo ∙ q) (w ∙ rw (ex, ey))))
+          (rw (ei, el, ej, er) (groupjoin-head (widthsOf ws) images (left ws n) (right ws n) (kind ws n) (itemsOf ws n) (operator ws n) extra (sym eo ∙ q)
+          (w ∙ rw (ex, ey))))
 
-      pub copied-other : (i : ℕ) → Single o → i ≡ images l → Pushed nodes₀ nodes₁ rows₀ rows₁ d e (c .items) (record { operator = o; left = i; right = 0; kind = 0 }) 0
+      pub copied-other : (i : ℕ) → Single o → i ≡ images l
+          → Pushed nodes₀ nodes₁ rows₀ rows₁ d e (c .items) (record { operator = o; left = i; right = 0; kind = 0 }) 0
           → GrowsOver (widthsOf ws) nodes₀ nodes₁ items₀ items₁ rows₀ rows₁ c e (λ out. out ++ (written ∷ []))
       copied-other i q ei =
           copied _ 0
-          (rw (ei, el, eo) (single-head (widthsOf ws) images (left ws n) (right ws n) (kind ws n) (itemsOf ws n) (operator ws n) (facts .low) (facts .high) (rw eo at q)))
+          (rw (ei, el, eo) (single-head (widthsOf ws) images (left ws n) (right ws n) (kind ws n) (itemsOf ws n) (operator ws n) (facts .low)
+          (facts .high) (rw eo at q)))

@@ -24,7 +24,8 @@ use Rattle.plan.proofs.Laws.Items.{items-length, tagsIn, keys-in}
 use Rattle.rewrite.specs.Items.{itemWords, shiftedWords, movedWords}
 use Rattle.rewrite.specs.Under.{overInput}
 use Rattle.rewrite.proofs.Laws.Sorted.{Parted, Read, node-is, group-parted, outputs}
-use Rattle.rewrite.proofs.Laws.Rules.{Written, headOf, computation-moved, shift-both, aggregates-shifted, aggregates-copied, conjuncts-all, conjuncts-alike, columns-first}
+use Rattle.rewrite.proofs.Laws.Rules.{Written, headOf, computation-moved, shift-both, aggregates-shifted, aggregates-copied}
+use Rattle.rewrite.proofs.Laws.Rules.{conjuncts-all, conjuncts-alike, columns-first}
 
 -- a group with keys
 over-keys : (D : Domain) (i j : ℕ) (gs : List Aggregate) (ks : List ℕ) → (length ks ≡ 0 → ⊥)
@@ -33,24 +34,40 @@ over-keys D i j gs [] f = absurd (f refl)
 over-keys D i j gs (k ∷ ks) f = refl
 
 -- the aggregates behind m items of another sort
-module _ (ws : List ℕ) (a count : ℕ) (p s : Item → Bool) (m : ℕ) (parted : Parted ws a count p s m) where
-  pub behind-shifted : (w : ℕ) → map (shiftedWords w) (itemsFrom ws (a + m) (count - m)) ≡ map aggregateWords (map (moveAggregate (shift w)) (aggregatesIn (itemsFrom ws a count)))
+module _ {ws : List ℕ} {a count : ℕ} {p s : Item → Bool} {m : ℕ} (parted : Parted ws a count p s m) where
+  pub behind-shifted : (w : ℕ)
+      → map (shiftedWords w) (itemsFrom ws (a + m) (count - m)) ≡ map aggregateWords (map (moveAggregate (shift w)) (aggregatesIn (itemsFrom ws a count)))
   behind-shifted w =
-      aggregates-shifted w (itemsFrom ws (a + m) (count - m)) (parted .behind) ∙ ap (λ (l : List Item). map aggregateWords (map (moveAggregate (shift w)) (map aggregateOf l))) (sym (parted .behind-kept))
+      aggregates-shifted w (itemsFrom ws (a + m) (count - m)) (parted .behind)
+      ∙ ap (λ (l : List Item). map aggregateWords (map (moveAggregate (shift w)) (map aggregateOf l))) (sym (parted .behind-kept))
 
   pub behind-copied : map itemWords (itemsFrom ws (a + m) (count - m)) ≡ map aggregateWords (aggregatesIn (itemsFrom ws a count))
-  behind-copied = aggregates-copied (itemsFrom ws (a + m) (count - m)) (parted .behind) ∙ ap (λ (l : List Item). map aggregateWords (map aggregateOf l)) (sym (parted .behind-kept))
+  behind-copied =
+      aggregates-copied (itemsFrom ws (a + m) (count - m)) (parted .behind)
+      ∙ ap (λ (l : List Item). map aggregateWords (map aggregateOf l)) (sym (parted .behind-kept))
 
   pub behind-length : count - m ≡ length (aggregatesIn (itemsFrom ws a count))
-  behind-length = sym (ap (λ (l : List Item). length (map aggregateOf l)) (parted .behind-kept) ∙ length-map (itemsFrom ws (a + m) (count - m)) aggregateOf ∙ items-length ws (a + m) (count - m))
+  behind-length =
+      sym
+      (ap (λ (l : List Item). length (map aggregateOf l)) (parted .behind-kept)
+      ∙ length-map (itemsFrom ws (a + m) (count - m)) aggregateOf
+      ∙ items-length ws (a + m) (count - m))
 
-module _ (ws : List ℕ) (n a count : ℕ) (read : Read ws n a count) (D : Domain) (w i : ℕ) (e : w ≡ D .width) where
-  pub project-over : operator ws n ≡ 4 → Written (map (positionWords 12) (span 0 w) ++ map (shiftedWords w) (itemsFrom ws a count)) (headOf 4 i 0 0) 0 (overInput D i (nodeAt ws n))
+module _ {ws : List ℕ} {n a count : ℕ} (read : Read ws n a count) (D : Domain) {w : ℕ} (i : ℕ) (e : w ≡ D .width) where
+  -- its items, and the aggregates among them as they stand under D
+  abbrev xs : List Item
+  xs = itemsFrom ws a count
+
+  abbrev gs : List Aggregate
+  gs = map (moveAggregate (shift (D .width))) (aggregatesIn xs)
+
+  pub project-over : operator ws n ≡ 4
+      → Written (map (positionWords 12) (span 0 w) ++ map (shiftedWords w) xs) (headOf 4 i 0 0) 0 (overInput D i (nodeAt ws n))
   unfolding nodeFor
   project-over q =
-      rw (e, node-is ws n a count read 4 q)
+      rw (e, node-is read 4 q)
       (record {
-        items = columns-first D 12 refl (map positionOf (itemsFrom ws a count)) (itemsFrom ws a count) refl (outputs ws n a count read q);
+        items = columns-first D 12 refl (map positionOf xs) xs refl (outputs read q);
         operator = refl;
         left = refl;
         right = refl;
@@ -58,72 +75,100 @@ module _ (ws : List ℕ) (n a count : ℕ) (read : Read ws n a count) (D : Domai
         extra-is = λ widths. refl;
       })
 
-  module _ (q : operator ws n ≡ 6) (m : ℕ) (f : m ≡ tagsIn ws a 11 11 count) where
-    keys : m ≡ length (keep isKey (itemsFrom ws a count))
+  module _ (q : operator ws n ≡ 6) {m : ℕ} (f : m ≡ tagsIn ws a 11 11 count) where
+    keys : m ≡ length (keep isKey xs)
     keys = f ∙ sym (keys-in ws a count)
 
     parted : Parted ws a count keyRight isKey m
-    parted = rw keys (group-parted ws n a count read q)
+    parted = rw keys (group-parted read q)
 
     -- a group without keys becomes a groupjoin with the domain
     pub group-none : m ≡ 0 → (node : ℕ) → node ≡ D .node
-        → Written (map conjunctWords (match (λ p. p) (λ p. w + p) (upto w)) ++ map (shiftedWords w) (itemsFrom ws a count)) (headOf 7 node i 0) count (overInput D i (nodeAt ws n))
+        → Written (map conjunctWords (match (λ p. p) (λ p. w + p) (upto w)) ++ map (shiftedWords w) xs)
+        (headOf 7 node i 0) count (overInput D i (nodeAt ws n))
     unfolding nodeFor
     group-none z node g =
         let p : Parted ws a count keyRight isKey 0 = rw z at parted in
-        rw (e, node-is ws n a count read 6 q, p .front-kept, g)
+        let front = map conjunctWords (match (λ p. p) (λ p. D .width + p) (upto (D .width))) in
+        rw (e, node-is read 6 q, p .front-kept, g)
         (record {
-          items = ap (λ (l : List (List ℕ)). map conjunctWords (match (λ p. p) (λ p. D .width + p) (upto (D .width))) ++ l) (ap (map (shiftedWords (D .width))) (p .whole) ∙ behind-shifted ws a count keyRight isKey 0 p (D .width));
+          items = ap (λ (l : List (List ℕ)). front ++ l) (ap (map (shiftedWords (D .width))) (p .whole) ∙ behind-shifted p (D .width));
           operator = refl;
           left = refl;
           right = refl;
           kind = refl;
-          extra-is = λ widths. sym (sub-zero count) ∙ behind-length ws a count keyRight isKey 0 p ∙ sym (length-map (aggregatesIn (itemsFrom ws a count)) (moveAggregate (shift (D .width))));
+          extra-is = λ widths. sym (sub-zero count) ∙ behind-length p ∙ sym (length-map (aggregatesIn xs) (moveAggregate (shift (D .width))));
         })
 
-    pub group-some : (m ≡ 0 → ⊥) → Written (map (positionWords 11) (span 0 w) ++ map (shiftedWords w) (itemsFrom ws a count)) (headOf 6 i 0 0) 0 (overInput D i (nodeAt ws n))
+    pub group-some : (m ≡ 0 → ⊥)
+        → Written (map (positionWords 11) (span 0 w) ++ map (shiftedWords w) xs) (headOf 6 i 0 0) 0 (overInput D i (nodeAt ws n))
     unfolding nodeFor
     group-some z =
-        rw (e, node-is ws n a count read 6 q, over-keys D i (left ws n) (aggregatesIn (itemsFrom ws a count)) (keysIn (itemsFrom ws a count)) (λ r. z (keys ∙ sym (length-map (keep isKey (itemsFrom ws a count)) positionOf) ∙ r)))
+        rw (e, node-is read 6 q, over-keys D i (left ws n) (aggregatesIn xs) (keysIn xs) some)
         (record { items = items; operator = refl; left = refl; right = refl; kind = refl; extra-is = λ widths. refl })
       where
+        some : length (keysIn xs) ≡ 0 → ⊥
+        some r = z (keys ∙ sym (length-map (keep isKey xs) positionOf) ∙ r)
+
         ys : List Item
         ys = itemsFrom ws a m
 
-        items : map (positionWords 11) (span 0 (D .width)) ++ map (shiftedWords (D .width)) (itemsFrom ws a count)
-            ≡ map (positionWords 11) (domainFirst D (keysIn (itemsFrom ws a count))) ++ map aggregateWords (map (moveAggregate (shift (D .width))) (aggregatesIn (itemsFrom ws a count)))
+        front : List (List ℕ)
+        front = map (positionWords 11) (span 0 (D .width))
+
+        items : front ++ map (shiftedWords (D .width)) xs ≡ map (positionWords 11) (domainFirst D (keysIn xs)) ++ map aggregateWords gs
         items =
-            ap (λ (l : List Item). map (positionWords 11) (span 0 (D .width)) ++ map (shiftedWords (D .width)) l) (parted .whole)
-            ∙ rw (map-append (shiftedWords (D .width)) ys (itemsFrom ws (a + m) (count - m)), behind-shifted ws a count keyRight isKey m parted (D .width))
-            (sym (append-assoc (map (positionWords 11) (span 0 (D .width))) (map (shiftedWords (D .width)) ys) _))
-            ∙ ap (λ (l : List (List ℕ)). l ++ map aggregateWords (map (moveAggregate (shift (D .width))) (aggregatesIn (itemsFrom ws a count)))) (columns-first D 11 refl (keysIn (itemsFrom ws a count)) ys (ap (map positionOf) (parted .front-kept)) (parted .front))
+            ap (λ (l : List Item). front ++ map (shiftedWords (D .width)) l) (parted .whole)
+            ∙ rw (map-append (shiftedWords (D .width)) ys (itemsFrom ws (a + m) (count - m)), behind-shifted parted (D .width))
+            (sym (append-assoc front (map (shiftedWords (D .width)) ys) _))
+            ∙ ap (λ (l : List (List ℕ)). l ++ map aggregateWords gs)
+            (columns-first D 11 refl (keysIn xs) ys (ap (map positionOf) (parted .front-kept)) (parted .front))
 
   -- select and map
-  pub moved-over : (o : ℕ) → o ≡ operator ws n → (o ≡ 4 → ⊥) → (o ≡ 6 → ⊥) → (operator ws n ≡ 1 → ⊥) → hasRight (operator ws n) ≡ false
-      → Written (map (movedWords D (shiftBoth 0 w 0)) (itemsFrom ws a count)) (headOf o i 0 0) 0 (overInput D i (nodeAt ws n))
-  unfolding nodeFor itemsRight
-  moved-over o q f g h k =
-      let v = facts-at ws (read .accepted .formed) n (read .there) in
-      rw (e, node-is ws n a count read o (sym q)) (by-operator Over (λ s x y z t. absurd (z refl)) selects computes (λ s x y z t. absurd (x refl)) (λ s x y z t. absurd (true≢false t)) (λ s x y z t. absurd (y refl)) (λ s x y z t. absurd (true≢false t)) (λ s x y z t. absurd (true≢false t)) o (omega (arith, v .low)) (omega (arith, v .high)) (rw (q, read .first, read .number) (v .sorts)) f g (rw q h) (rw q k))
-    where
-      xs : List Item
-      xs = itemsFrom ws a count
+  module _ (h : operator ws n ≡ 1 → ⊥) (k : hasRight (operator ws n) ≡ false) where
+    pub moved-over : {o : ℕ} → o ≡ operator ws n → (o ≡ 4 → ⊥) → (o ≡ 6 → ⊥)
+        → Written (map (movedWords D (shiftBoth 0 w 0)) xs) (headOf o i 0 0) 0 (overInput D i (nodeAt ws n))
+    unfolding nodeFor itemsRight
+    moved-over {o} q f g =
+        let v = facts-at ws (read .accepted .formed) n (read .there) in
+        let right-sorts : itemsRight o xs ≡ true = rw (q, read .first, read .number) (v .sorts) in
+        rw (e, node-is read o (sym q))
+        (by-operator Over
+        (λ s x y z t. absurd (z refl))
+        selects
+        computes
+        (λ s x y z t. absurd (x refl))
+        (λ s x y z t. absurd (true≢false t))
+        (λ s x y z t. absurd (y refl))
+        (λ s x y z t. absurd (true≢false t))
+        (λ s x y z t. absurd (true≢false t))
+        o (omega (arith, v .low)) (omega (arith, v .high)) right-sorts f g (rw q h) (rw q k))
+      where
+        Over : ℕ → Type 0
+        Over o =
+            itemsRight o xs ≡ true → (o ≡ 4 → ⊥) → (o ≡ 6 → ⊥) → (o ≡ 1 → ⊥) → hasRight o ≡ false
+            → Written (map (movedWords D (shiftBoth 0 (D .width) 0)) xs) (headOf o i 0 0) 0
+            (overInput D i (nodeFor o (left ws n) (right ws n) (kindOf (kind ws n)) xs))
 
-      Over : ℕ → Type 0
-      Over o =
-          itemsRight o (itemsFrom ws a count) ≡ true → (o ≡ 4 → ⊥) → (o ≡ 6 → ⊥) → (o ≡ 1 → ⊥) → hasRight o ≡ false
-          → Written (map (movedWords D (shiftBoth 0 (D .width) 0)) (itemsFrom ws a count)) (headOf o i 0 0) 0 (overInput D i (nodeFor o (left ws n) (right ws n) (kindOf (kind ws n)) (itemsFrom ws a count)))
+        selects : Over 2
+        selects s x y z t =
+            let r = every-all conjunctRight xs s in
+            record {
+              items = conjuncts-alike D (conjunctsIn xs) xs (conjuncts-all xs r) r;
+              operator = refl;
+              left = refl;
+              right = refl;
+              kind = refl;
+              extra-is = λ widths. refl;
+            }
 
-      selects : Over 2
-      selects s x y z t =
-          let r = every-all conjunctRight xs s in
-          record { items = conjuncts-alike D (conjunctsIn xs) xs (conjuncts-all xs r) r; operator = refl; left = refl; right = refl; kind = refl; extra-is = λ widths. refl }
-
-      computes : Over 3
-      computes s x y z t = record { items = single xs s; operator = refl; left = refl; right = refl; kind = refl; extra-is = λ widths. refl }
-        where
-          single : (ys : List Item) → (eqb (length ys) 1 && all computationRight ys) ≡ true
-              → map (movedWords D (shiftBoth 0 (D .width) 0)) ys ≡ computationWords (moveComputation D (shift (D .width)) (computationIn ys)) ∷ []
-          single [] r = absurd (true≢false (sym r))
-          single (y ∷ []) r = rw (shift-both (D .width)) (ap (λ (l : List ℕ). l ∷ []) (computation-moved D (shift (D .width)) y (both _ _ r .0)))
-          single (y ∷ u ∷ ys) r = absurd (omega (arith, eqb-true (suc (suc (length ys))) 1 (both _ _ r .0)))
+        computes : Over 3
+        computes s x y z t =
+            record { items = single xs s; operator = refl; left = refl; right = refl; kind = refl; extra-is = λ widths. refl }
+          where
+            single : (ys : List Item) → (eqb (length ys) 1 && all computationRight ys) ≡ true
+                → map (movedWords D (shiftBoth 0 (D .width) 0)) ys ≡ computationWords (moveComputation D (shift (D .width)) (computationIn ys)) ∷ []
+            single [] r = absurd (true≢false (sym r))
+            single (y ∷ []) r =
+                rw (shift-both (D .width)) (ap (λ (l : List ℕ). l ∷ []) (computation-moved D (shift (D .width)) y (both _ _ r .0)))
+            single (y ∷ u ∷ ys) r = absurd (omega (arith, eqb-true (suc (suc (length ys))) 1 (both _ _ r .0)))

@@ -27,7 +27,8 @@ use Rattle.rewrite.proofs.Laws.Rules.{Written, headOf}
 -- ---- one node more
 
 -- the items of the next node begin behind those of the others
-pub first-of : (widths nodes items items′ rows : List ℕ) (c c′ : Cursor) (out : List Node) (new : List (List ℕ)) → Page widths nodes items rows c out [] → Page widths nodes items′ rows c′ out new
+pub first-of : (widths nodes items items′ rows : List ℕ) (c c′ : Cursor) (out : List Node) (new : List (List ℕ)) → Page widths nodes items rows c out []
+    → Page widths nodes items′ rows c′ out new
     → c′ .ok ≡ true → c .items ≡ length (allItems out)
 first-of widths nodes items items′ rows c c′ out new p q t = go (c .ok) refl
   where
@@ -57,13 +58,24 @@ grows-as f g e h widths out p = rw (e out) at (h widths out p)
 
 -- a domain over keys
 pub domain-written : (ks : List ℕ) (i : ℕ) → Written (map (positionWords 11) ks) (headOf 6 i 0 0) 0 (group ks [] i)
-domain-written ks i = record { items = sym (append-nil (map (positionWords 11) ks)); operator = refl; left = refl; right = refl; kind = refl; extra-is = λ widths. refl }
+domain-written ks i = record {
+  items = sym (append-nil (map (positionWords 11) ks));
+  operator = refl;
+  left = refl;
+  right = refl;
+  kind = refl;
+  extra-is = λ widths. refl;
+}
 
 -- ---- the project behind a join
 
 -- what is over stays over, whatever comes behind
-over-other : {widths nodes items rows : List ℕ} {c : Cursor} (out more other : List Node) → (Fits widths out [] → ⊥) → Page widths nodes items rows c (out ++ more) [] → Page widths nodes items rows c (out ++ other) []
-over-other {widths} out more other f p = record { holds = λ t. absurd (f (fits-front widths out more (p .holds t .fits))); over = λ t g. f (fits-front widths out other g) }
+over-other : {widths nodes items rows : List ℕ} {c : Cursor} (out more other : List Node) → (Fits widths out [] → ⊥)
+    → Page widths nodes items rows c (out ++ more) [] → Page widths nodes items rows c (out ++ other) []
+over-other {widths} out more other f p = record {
+  holds = λ t. absurd (f (fits-front widths out more (p .holds t .fits)));
+  over = λ t g. f (fits-front widths out other g);
+}
 
 -- the kinds that have one
 pub kept-kind : (k : ℕ) (ps : List ℕ) (x : Placed) → 2 ≤ k → k < 4 → dropping (kindOf k) ps x ≡ x
@@ -96,10 +108,17 @@ columns-dropped {nodes} {nodes′} {items} {items₁} {items′} {rows} {rows′
     front = out ++ (x ∷ [])
 
     written : Written (map (positionWords 12) (span 0 n) ++ map (positionWords 12) (span (n + m) w)) (headOf 4 at 0 0) 0 (project (around n m w) at)
-    written = record { items = sym (map-append (positionWords 12) (span 0 n) (span (n + m) w)); operator = refl; left = refl; right = refl; kind = refl; extra-is = λ widths. refl }
+    written = record {
+      items = sym (map-append (positionWords 12) (span 0 n) (span (n + m) w));
+      operator = refl;
+      left = refl;
+      right = refl;
+      kind = refl;
+      extra-is = λ widths. refl;
+    }
 
     page : Page widths nodes′ items′ rows′ c′ (front ++ (project (around n m w) at ∷ [])) []
-    page = grows _ (project (around n m w) at) (added-then items items₁ items′ c c₁ c₂ _ _ first second) pushed written widths front p
+    page = grows _ (project (around n m w) at) (added-then _ _ first second) pushed written widths front p
 
     go : (b : Bool) → c .ok ≡ b → Page widths nodes′ items′ rows′ c′ (front ++ (project (around n m w) (length out) ∷ [])) []
     go true t = let q : at ≡ length out = omega (arith, p .holds t .count, length-append out (x ∷ [])) in rw q at page

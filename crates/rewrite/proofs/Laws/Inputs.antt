@@ -9,7 +9,8 @@ use lib.Dec.{eqb}
 use lib.ListN.{getD}
 use borrow.Author.Tests.{eq-eqb, eqb-true, ltb-true}
 use Rattle.algebra.specs.Lists.{Every, all, done, each, more}
-use Rattle.algebra.specs.Plan.{Computation, Conjunct, Kind, Node, Term, add, column, compute, constant, copy, dependent, group, groupjoin, inputs, join, nothing, outer, project, scan, select, subtract}
+use Rattle.algebra.specs.Plan.{Computation, Conjunct, Kind, Node, Term, add, column, compute, constant, copy}
+use Rattle.algebra.specs.Plan.{dependent, group, groupjoin, inputs, join, nothing, outer, project, scan, select, subtract}
 use Rattle.algebra.specs.Columns.{Column, Shape, computationReads, conjunctReads, past, pastOne, readsLeft, readsOf, shapeAt, termReads}
 use Rattle.algebra.specs.Domains.{Domain, innerDomain, inside}
 use Rattle.algebra.specs.Statements.{Fine, InLeft}
@@ -69,17 +70,20 @@ past-small t = every-each _ (every-map (λ c h. go (c .level) (c .position) h) t
     go (suc l) p h = more h done
 
 -- a node that is there, over inputs with small positions
-node-small : (width : ℕ → ℕ) (around : List ℕ) → Every (λ v. v ≤ 64) around → (at : ℕ → List Column) (n : Node) → columnsThere width around n ≡ true → Every (λ i. Small (at i)) (inputs n) → Small (readsOf at n)
+node-small : (width : ℕ → ℕ) (around : List ℕ) → Every (λ v. v ≤ 64) around → (at : ℕ → List Column) (n : Node) → columnsThere width around n ≡ true
+    → Every (λ i. Small (at i)) (inputs n) → Small (readsOf at n)
 unfolding columnsThere
 node-small width around narrow at (scan t) e s = done
 node-small width around narrow at (select cs i) e s = every-append (conjuncts-small around _ narrow cs e) (every-head s)
 node-small width around narrow at (compute c i) e s = every-append (computation-small around _ narrow c e) (every-head s)
 node-small width around narrow at (project ps i) e s = every-head s
-node-small width around narrow at (join k cs l r) e s = every-append (conjuncts-small around _ narrow cs e) (every-append (every-head s) (every-head (every-tail s)))
+node-small width around narrow at (join k cs l r) e s =
+    every-append (conjuncts-small around _ narrow cs e) (every-append (every-head s) (every-head (every-tail s)))
 node-small width around narrow at (group ks gs i) e s = every-head s
 node-small width around narrow at (groupjoin cs gs l r) e s =
     every-append (conjuncts-small around _ narrow cs (and-left (all (conjunctThere around _) cs) _ e)) (every-append (every-head s) (every-head (every-tail s)))
-node-small width around narrow at (dependent k cs l r) e s = every-append (conjuncts-small around _ narrow cs e) (every-append (every-head s) (past-small (every-head (every-tail s))))
+node-small width around narrow at (dependent k cs l r) e s =
+    every-append (conjuncts-small around _ narrow cs e) (every-append (every-head s) (past-small (every-head (every-tail s))))
 
 module _ (ws : List ℕ) (a : Accepted ws) where
   small-within : (bound n : ℕ) → n < bound → n < nodes ws → Small (readsAt ws n)
@@ -125,7 +129,8 @@ module _ {P : Column → Type 0} (at : ℕ → List Column) (l r : ℕ) (k : Kin
 
 -- ---- what the right side of a dependent join reads of the left row is there
 
-in-left-of : (sh : ℕ → Shape) (c l r : ℕ) (k : Kind) (xs : List Item) (o : ℕ) → o ≡ 8 → Fine sh c (nodeFor o l r k xs) → Every (λ e. InLeft (sh l .width) (e .level) (e .position)) (sh r .reads)
+in-left-of : (sh : ℕ → Shape) (c l r : ℕ) (k : Kind) (xs : List Item) (o : ℕ) → o ≡ 8 → Fine sh c (nodeFor o l r k xs)
+    → Every (λ e. InLeft (sh l .width) (e .level) (e .position)) (sh r .reads)
 unfolding nodeFor
 in-left-of sh c l r k xs o e f = (rw e at f) .2
 
@@ -155,10 +160,12 @@ module _ (ws : List ℕ) (a : Accepted ws) (n : ℕ) (h : n < nodes ws) where
       rights = right-of (readsAt ws) (left ws n) (right ws n) (kindOf (kind ws n)) (itemsOf ws n) (operator ws n) (facts .low) (facts .high) q reads-are
 
       -- and its right input, where that does not read its left row
-      pub right-within : (operator ws n ≡ 8 → readsLeft (shapeAt (widthsOf ws) (nodesOf ws) (right ws n)) ≡ false) → Within (cond (eqb (operator ws n) 8) (inside D) D) (readsAt ws (right ws n))
+      pub right-within : (operator ws n ≡ 8 → readsLeft (shapeAt (widthsOf ws) (nodesOf ws) (right ws n)) ≡ false)
+          → Within (cond (eqb (operator ws n) 8) (inside D) D) (readsAt ws (right ws n))
       right-within u = go (eqb (operator ws n) 8) refl rights
         where
-          go : (b : Bool) → eqb (operator ws n) 8 ≡ b → Within D (cond b (past (readsAt ws (right ws n))) (readsAt ws (right ws n))) → Within (cond b (inside D) D) (readsAt ws (right ws n))
+          go : (b : Bool) → eqb (operator ws n) 8 ≡ b → Within D (cond b (past (readsAt ws (right ws n))) (readsAt ws (right ws n)))
+              → Within (cond b (inside D) D) (readsAt ws (right ws n))
           go true e t = inside-held D (readsAt ws (right ws n)) (u (eqb-true _ _ e)) t
           go false e t = t
 

@@ -62,7 +62,8 @@ module _ {A : Type 0} where
   any-keep p f [] = refl
   any-keep p f (x ∷ xs) = go (p x) (any-keep p f xs)
     where
-      go : (b : Bool) → any f (keep p xs) ≡ any (λ y. p y && f y) xs → any f (cond b (x ∷ keep p xs) (keep p xs)) ≡ cond (b && f x) true (any (λ y. p y && f y) xs)
+      go : (b : Bool) → any f (keep p xs) ≡ any (λ y. p y && f y) xs
+          → any f (cond b (x ∷ keep p xs) (keep p xs)) ≡ cond (b && f x) true (any (λ y. p y && f y) xs)
       go true e = rw e
       go false e = e
 
@@ -88,7 +89,8 @@ any-one f i (suc n) h = any-snoc (λ k. eqb i k && f k) n ∙ go (ltb i n) refl 
 
 -- set with the spots of the columns below p
 pub record Spots (d : Domain) (level columns set p set′ : ℕ) : Type 0 where
-  pub all : (D : algebra.Domain) → Means d D → (q : ℕ) → q < 64 → inSet set′ q ≡ (inSet set q || any (λ k. eqb q (algebra.spot D level k)) (keep (inSet columns) (upto p)))
+  pub all : (D : algebra.Domain) → Means d D → (q : ℕ) → q < 64
+      → inSet set′ q ≡ (inSet set q || any (λ k. eqb q (algebra.spot D level k)) (keep (inSet columns) (upto p)))
 
 equal-swapped : (a b : ℕ) → eqb a b ≡ eqb b a
 equal-swapped a b = go (eqb b a) refl
@@ -108,17 +110,20 @@ module _ {d : Domain} {level columns set : ℕ} where
 
     module _ (e : inSet columns p ≡ true) {r : ℕ} (s : (D : algebra.Domain) → Means d D → r ≡ algebra.spot D level p) where
       next : (D : algebra.Domain) → Means d D → (q : ℕ)
-          → any (λ k. eqb q (algebra.spot D level k)) (keep (inSet columns) (upto (p + 1))) ≡ (any (λ k. eqb q (algebra.spot D level k)) (keep (inSet columns) (upto p)) || eqb q r)
+          → any (λ k. eqb q (algebra.spot D level k)) (keep (inSet columns) (upto (p + 1)))
+          ≡ (any (λ k. eqb q (algebra.spot D level k)) (keep (inSet columns) (upto p)) || eqb q r)
       next D m q =
           let at : ℕ → Bool = λ k. eqb q (algebra.spot D level k) in
           rw (add-one p, keep-append (inSet columns) (upto p) (p ∷ []), e, s D m)
-          (any-append at (keep (inSet columns) (upto p)) (p ∷ []) ∙ ap (λ (b : Bool). any at (keep (inSet columns) (upto p)) || b) (cond-or (at p) false ∙ or-false (at p)))
+          (any-append at (keep (inSet columns) (upto p)) (p ∷ []) ∙ ap (λ (b : Bool). any at (keep (inSet columns) (upto p)) || b)
+          (cond-or (at p) false ∙ or-false (at p)))
 
       -- it is there
       pub spots-in : {v : ℕ} → v ≡ bitOr set′ (2 ^ r) → Spots d level columns set (p + 1) v
       spots-in t = record {
         all = λ D m q h.
-            rw (t, in-with set′ r q, before .all D m q h, next D m q, equal-swapped r q) (or-assoc (inSet set q) (any (λ k. eqb q (algebra.spot D level k)) (keep (inSet columns) (upto p))) (eqb q r));
+            rw (t, in-with set′ r q, before .all D m q h, next D m q, equal-swapped r q)
+            (or-assoc (inSet set q) (any (λ k. eqb q (algebra.spot D level k)) (keep (inSet columns) (upto p))) (eqb q r));
       }
 
       -- it is there, and stands too far for a set
@@ -132,7 +137,8 @@ module _ {d : Domain} {level columns set : ℕ} where
 
 -- the spots of the columns of levels below l of node r
 pub record Levels (d : Domain) (table : List ℕ) (r l set : ℕ) : Type 0 where
-  pub all : (D : algebra.Domain) → Means d D → (q : ℕ) → q < 64 → inSet set q ≡ any (λ k. any (λ p. eqb q (algebra.spot D k p)) (members (getD table (8 * r + k) 0))) (upto l)
+  pub all : (D : algebra.Domain) → Means d D → (q : ℕ) → q < 64
+      → inSet set q ≡ any (λ k. any (λ p. eqb q (algebra.spot D k p)) (members (getD table (8 * r + k) 0))) (upto l)
 
 module _ {d : Domain} {table : List ℕ} {r : ℕ} where
   pub levels-none : Levels d table r 0 0
@@ -140,7 +146,9 @@ module _ {d : Domain} {table : List ℕ} {r : ℕ} where
 
   -- one level more
   pub levels-more : {l set set′ : ℕ} → Levels d table r l set → {i j : ℕ} → i ≡ r → j ≡ l
-      → ((D : algebra.Domain) → Means d D → (q : ℕ) → q < 64 → inSet set′ q ≡ (inSet set q || any (λ p. eqb q (algebra.spot D l p)) (members (getD table (8 * i + j) 0)))) → Levels d table r (l + 1) set′
+      → ((D : algebra.Domain) → Means d D → (q : ℕ) → q < 64 → inSet set′ q ≡ (inSet set q || any (λ p. eqb q (algebra.spot D l p))
+      (members (getD table (8 * i + j) 0))))
+      → Levels d table r (l + 1) set′
   levels-more {l} {set} {set′} before {i} {j} ei ej f = record {
     all = λ D m q h.
         any-next (λ k. any (λ p. eqb q (algebra.spot D k p)) (members (getD table (8 * r + k) 0))) l (before .all D m q h)
@@ -159,7 +167,8 @@ spot-of F c hl hp =
   where
     level : (k : ℕ) → any (λ p. (eqb (c .level) k && eqb (c .position) p) && F k p) (upto 64) ≡ (eqb (c .level) k && F k (c .position))
     level k =
-        any-cong _ (λ p. eqb (c .level) k && (eqb (c .position) p && F k p)) (every-of (λ p. and-assoc (eqb (c .level) k) (eqb (c .position) p) (F k p)) (upto 64))
+        any-cong _ (λ p. eqb (c .level) k && (eqb (c .position) p && F k p))
+        (every-of (λ p. and-assoc (eqb (c .level) k) (eqb (c .position) p) (F k p)) (upto 64))
         ∙ any-and (eqb (c .level) k) (λ p. eqb (c .position) p && F k p) (upto 64)
         ∙ ap (λ (b : Bool). eqb (c .level) k && b) (any-one (F k) (c .position) 64 hp)
 
@@ -168,7 +177,8 @@ spots-of : (F : ℕ → ℕ → Bool) {cs : List Column} → Every (λ c. (c .le
     → any (λ k. any (λ p. reads cs k p && F k p) (upto 64)) (upto 8) ≡ any (λ c. F (c .level) (c .position)) cs
 spots-of F done = any-none _ (every-of (λ k. any-none _ (every-of (λ p. refl) (upto 64))) (upto 8))
 spots-of F (more {x} {xs} h t) =
-    any-cong _ (λ k. any (one k) (upto 64) || any (others k) (upto 64)) (every-of (λ k. any-cong _ (λ p. one k p || others k p) (every-of (λ p. split k p) (upto 64)) ∙ any-or (one k) (others k) (upto 64)) (upto 8))
+    any-cong _ (λ k. any (one k) (upto 64) || any (others k) (upto 64))
+    (every-of (λ k. any-cong _ (λ p. one k p || others k p) (every-of (λ p. split k p) (upto 64)) ∙ any-or (one k) (others k) (upto 64)) (upto 8))
     ∙ any-or (λ k. any (one k) (upto 64)) (λ k. any (others k) (upto 64)) (upto 8)
     ∙ ap₂ _||_ (spot-of F x (h .0) (h .1)) (spots-of F t)
     ∙ sym (cond-or (F (x .level) (x .position)) _)
@@ -180,7 +190,9 @@ spots-of F (more {x} {xs} h t) =
     others k p = reads xs k p && F k p
 
     split : (k p : ℕ) → (reads (x ∷ xs) k p && F k p) ≡ (one k p || others k p)
-    split k p = rw (cond-or (eqb (x .level) k && eqb (x .position) p) (reads xs k p)) (and-or-distrib-right (eqb (x .level) k && eqb (x .position) p) (reads xs k p) (F k p))
+    split k p =
+        rw (cond-or (eqb (x .level) k && eqb (x .position) p) (reads xs k p))
+        (and-or-distrib-right (eqb (x .level) k && eqb (x .position) p) (reads xs k p) (F k p))
 
 -- nothing is kept from n on
 keep-upto : (p : ℕ → Bool) (n m : ℕ) → n ≤ m → ((q : ℕ) → n ≤ q → p q ≡ false) → keep p (upto m) ≡ keep p (upto n)
@@ -208,15 +220,18 @@ key-set {d} table r {l} {set} levels g h ws D w m has narrow spotted =
     key : ℕ → Bool
     key q = any (λ c. eqb q (algebra.spot D (c .level) (c .position))) cs
 
-    level : (q k : ℕ) → k < 8 → any (λ p. eqb q (algebra.spot D k p)) (members (getD table (8 * r + k) 0)) ≡ any (λ p. reads cs k p && eqb q (algebra.spot D k p)) (upto 64)
+    level : (q k : ℕ) → k < 8
+        → any (λ p. eqb q (algebra.spot D k p)) (members (getD table (8 * r + k) 0)) ≡ any (λ p. reads cs k p && eqb q (algebra.spot D k p)) (upto 64)
     level q k hk =
         any-keep (inSet (getD table (8 * r + k) 0)) (λ p. eqb q (algebra.spot D k p)) (upto 64)
-        ∙ any-cong (λ p. inSet (getD table (8 * r + k) 0) p && eqb q (algebra.spot D k p)) (λ p. reads cs k p && eqb q (algebra.spot D k p)) (every-map (λ p hp. rw (has r k p (omega arith) hk hp)) (upto-below 64))
+        ∙ any-cong (λ p. inSet (getD table (8 * r + k) 0) p && eqb q (algebra.spot D k p)) (λ p. reads cs k p && eqb q (algebra.spot D k p))
+        (every-map (λ p hp. rw (has r k p (omega arith) hk hp)) (upto-below 64))
 
     at : (q : ℕ) → q < 64 → inSet set q ≡ key q
     at q i =
         eight .all D m q i
-        ∙ any-cong (λ k. any (λ p. eqb q (algebra.spot D k p)) (members (getD table (8 * r + k) 0))) (λ k. any (λ p. reads cs k p && eqb q (algebra.spot D k p)) (upto 64)) (every-map (λ k hk. level q k hk) (upto-below 8))
+        ∙ any-cong (λ k. any (λ p. eqb q (algebra.spot D k p)) (members (getD table (8 * r + k) 0)))
+        (λ k. any (λ p. reads cs k p && eqb q (algebra.spot D k p)) (upto 64)) (every-map (λ k hk. level q k hk) (upto-below 8))
         ∙ spots-of (λ k p. eqb q (algebra.spot D k p)) (every-map (λ c s. (s .0, s .1)) spotted)
 
     far : (q : ℕ) → D .width + w ≤ q → key q ≡ false

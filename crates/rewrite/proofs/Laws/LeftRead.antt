@@ -91,7 +91,7 @@ module _ (ws : List ℕ) (a : Accepted ws) (n : ℕ) (h : n < nodes ws) {o : ℕ
     right-node = let below = facts-at ws (a .formed) n h .right-node (rw (sym e ∙ q)) in omega arith
 
     pub right-index : 8 * i < 2048
-    right-index = omega (arith, node-index ws a (right ws n) right-node (ei ∙ er))
+    right-index = omega (arith, node-index a right-node (ei ∙ er))
 
     -- the number of positions that the table has
     pub left-read : (table : List ℕ) → ReadsTable ws (nodes ws) table → {k : ℕ} → k ≡ rank (getD table (8 * i) 0) 64
@@ -103,5 +103,6 @@ module _ (ws : List ℕ) (a : Accepted ws) (n : ℕ) (h : n < nodes ws) {o : ℕ
 
         go : (b : Bool) → readsLeft (shapeAt (widthsOf ws) (nodesOf ws) (right ws n)) ≡ b → not (eqb k 0) ≡ b
         go true u =
-            ap not (ne-eqb k 0 (λ z. true≢false (sym u ∙ left-all (readsAt ws (right ws n)) (reads-small ws a (right ws n) right-node) (λ p g. sym (entry p g) ∙ rank-zero (getD table (8 * i) 0) 64 (sym f ∙ z) p g))))
+            ap not (ne-eqb k 0 (λ z. true≢false (sym u ∙ left-all (readsAt ws (right ws n)) (reads-small ws a (right ws n) right-node)
+            (λ p g. sym (entry p g) ∙ rank-zero (getD table (8 * i) 0) 64 (sym f ∙ z) p g))))
         go false u = ap not (eq-eqb k 0 (f ∙ zero-rank (getD table (8 * i) 0) 64 (λ p g. entry p g ∙ left-none (readsAt ws (right ws n)) p u)))

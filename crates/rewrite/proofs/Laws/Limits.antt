@@ -7,7 +7,7 @@ use Rattle.plan.specs.Words.{nodes, firstItem, itemCount}
 use Rattle.plan.specs.Promise.{Accepted}
 use Rattle.plan.proofs.Laws.Formed.{facts-at, limited}
 
-module _ (ws : List ℕ) (accepted : Accepted ws) (n : ℕ) (h : n < nodes ws) where
+module _ {ws : List ℕ} (accepted : Accepted ws) {n : ℕ} (h : n < nodes ws) where
   -- it has its place in the tables
   pub node-index : {i : ℕ} → i ≡ n → i < 256
   node-index e = omega (arith, limited ws (accepted .formed .sized) .nodes-few)

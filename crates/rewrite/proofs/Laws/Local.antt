@@ -8,7 +8,8 @@ use native.Mathlib.Omega.{arith}
 use lib.ListN.{getD, length, length-append}
 use borrow.Author.Tests.{ltb-true}
 use Rattle.algebra.specs.Lists.{Every, all, done, each, isEmpty, more}
-use Rattle.algebra.specs.Plan.{Computation, Conjunct, Node, Term, add, column, compute, constant, copy, dependent, group, groupjoin, inputs, join, nothing, outer, project, scan, select, subtract}
+use Rattle.algebra.specs.Plan.{Computation, Conjunct, Node, Term, add, column, compute, constant, copy, dependent}
+use Rattle.algebra.specs.Plan.{group, groupjoin, inputs, join, nothing, outer, project, scan, select, subtract}
 use Rattle.algebra.specs.Columns.{computationReads, conjunctReads, termReads}
 use Rattle.algebra.specs.Statements.{Plain}
 use Rattle.algebra.proofs.Lists.Same.{and-left, and-right}
@@ -38,7 +39,8 @@ module _ (w : ℕ) where
   conjuncts-local : (cs : List Conjunct) → all (conjunctThere [] w) cs ≡ true → isEmpty (each conjunctReads cs) ≡ true
   conjuncts-local [] e = refl
   conjuncts-local (c ∷ cs) e =
-      closed-append (conjunctReads c) _ (two-local (c .first) (c .second) (and-left (conjunctThere [] w c) _ e)) (conjuncts-local cs (and-right (conjunctThere [] w c) _ e))
+      closed-append (conjunctReads c) _ (two-local (c .first) (c .second) (and-left (conjunctThere [] w c) _ e))
+      (conjuncts-local cs (and-right (conjunctThere [] w c) _ e))
 
   -- a computation
   computation-local : (c : Computation) → computationThere [] w c ≡ true → isEmpty (computationReads c) ≡ true
@@ -104,7 +106,8 @@ two-levelled a b e = more (term-levelled a (closed-front (termReads a) _ e)) (mo
 -- conjuncts
 conjuncts-levelled : (cs : List Conjunct) → isEmpty (each conjunctReads cs) ≡ true → Every Levelled (each conjunctTerms cs)
 conjuncts-levelled [] e = done
-conjuncts-levelled (c ∷ cs) e = every-append (two-levelled (c .first) (c .second) (closed-front (conjunctReads c) _ e)) (conjuncts-levelled cs (closed-back (conjunctReads c) _ e))
+conjuncts-levelled (c ∷ cs) e =
+    every-append (two-levelled (c .first) (c .second) (closed-front (conjunctReads c) _ e)) (conjuncts-levelled cs (closed-back (conjunctReads c) _ e))
 
 -- a computation
 computation-levelled : (c : Computation) → isEmpty (computationReads c) ≡ true → Every Levelled (computationTerms c)

@@ -61,16 +61,19 @@ module _ (t : Three) (a : code.Three) (e : Same a t) where
     unfolding termOf
     moved-local r p g q (x, y, z) = let k : t .code ≡ 0 = sym (e .0) ∙ g in rw (k, ← (e .2), x, y, z, q)
 
-    pub moved-outer : (r : code.Three) (p : ℕ) → a .code ≡ 1 → p ≡ D .place (a .level) (a .value) → Local r p → threeWords r ≡ termWords (algebra.moveTerm D f (termOf t))
+    pub moved-outer : (r : code.Three) (p : ℕ) → a .code ≡ 1 → p ≡ D .place (a .level) (a .value) → Local r p
+        → threeWords r ≡ termWords (algebra.moveTerm D f (termOf t))
     unfolding termOf
     moved-outer r p g q (x, y, z) = let k : t .code ≡ 1 = sym (e .0) ∙ g in rw (k, ← (e .1), ← (e .2), x, y, z, q)
 
-    pub moved-other : (a .code ≡ 0 → ⊥) → (a .code ≡ 1 → ⊥) → termRight t ≡ true → a .value < 2 ^ 32 → threeWords a ≡ termWords (algebra.moveTerm D f (termOf t))
+    pub moved-other : (a .code ≡ 0 → ⊥) → (a .code ≡ 1 → ⊥) → termRight t ≡ true → a .value < 2 ^ 32
+        → threeWords a ≡ termWords (algebra.moveTerm D f (termOf t))
     moved-other x y h v = rw (e .0, e .1, e .2) (kept D f t (λ q. x (e .0 ∙ q)) (λ q. y (e .0 ∙ q)) h (rw (e .2) at v))
 
 -- ---- an item
 
-module _ (D : algebra.Domain) (f : ℕ → ℕ) (x : Item) (t : ℕ) (a b : code.Three) (e : t ≡ x .tag) (g : threeWords a ≡ termWords (algebra.moveTerm D f (termOf (x .first)))) where
+module _ (D : algebra.Domain) (f : ℕ → ℕ) (x : Item) (t : ℕ) (a b : code.Three) (e : t ≡ x .tag)
+    (g : threeWords a ≡ termWords (algebra.moveTerm D f (termOf (x .first)))) where
   moved-first : (second : List ℕ) → threeWords b ≡ second → wordsOf t a b ≡ x .tag ∷ (termWords (algebra.moveTerm D f (termOf (x .first))) ++ second)
   moved-first second h = rw (← e, ← g, ← h)
 

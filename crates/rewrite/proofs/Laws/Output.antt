@@ -50,8 +50,12 @@ module _ (ws nodes items out : List ℕ) (n i : ℕ) (long : 8 + tables ws ≤ l
       let x : List ℕ = take t (drop 8 ws) in
       let y : List ℕ = take (6 * n) nodes in
       let z : List ℕ = take (7 * i) items in
-      let some : length (header t n i ++ x) ≡ 8 + t = length-append (header t n i) x ∙ ap (λ (k : ℕ). 8 + k) (length-take-le t (drop 8 ws) (omega (arith, length-drop 8 ws))) in
-      let more : length ((header t n i ++ x) ++ y) ≡ 8 + t + 6 * n = length-append (header t n i ++ x) y ∙ ap (λ (k : ℕ). k + length y) some ∙ ap (λ (k : ℕ). 8 + t + k) (length-take-le (6 * n) nodes enough) in
+      let some : length (header t n i ++ x) ≡ 8 + t =
+      length-append (header t n i) x ∙ ap (λ (k : ℕ). 8 + k) (length-take-le t (drop 8 ws) (omega (arith, length-drop 8 ws))) in
+      let more : length ((header t n i ++ x) ++ y) ≡ 8 + t + 6 * n =
+      length-append (header t n i ++ x) y
+      ∙ ap (λ (k : ℕ). k + length y) some
+      ∙ ap (λ (k : ℕ). 8 + t + k) (length-take-le (6 * n) nodes enough) in
       fourth
       ∙ behind out c ((header t n i ++ x) ++ y) items (8 + t + 6 * n) (7 * i)
       (third ∙ behind out b (header t n i ++ x) nodes (8 + t) (6 * n) (second ∙ behind out a (header t n i) (drop 8 ws) 8 t first refl) some) more

@@ -72,44 +72,56 @@ abbrev pub Others : ℕ → Type 0
 Others o = ((((Unit × (o ≡ 1 → ⊥)) × (o ≡ 2 → ⊥)) × (o ≡ 3 → ⊥)) × ((o ≡ 4) ⊎ (o ≡ 6) → ⊥)) × (o ≡ 7 → ⊥)
 
 -- the width by the operator
-module _ (rows : List ℕ) (o l r k count extra w : ℕ) where
-  pub width-extra : o ≡ 1 → w ≡ extra → w ≡ widthBy (λ i. getD rows i 0) o l r k count extra
-  unfolding widthBy
-  width-extra e f = rw (e, f)
+module _ (rows : List ℕ) (head : Head) (count extra : ℕ) where
+  abbrev first : ℕ
+  first = getD rows (head .left) 0
 
-  pub width-left : o ≡ 2 → w ≡ getD rows l 0 → w ≡ widthBy (λ i. getD rows i 0) o l r k count extra
-  unfolding widthBy
-  width-left e f = rw (e, f)
+  abbrev second : ℕ
+  second = getD rows (head .right) 0
 
-  pub width-one : o ≡ 3 → w ≡ getD rows l 0 + 1 → w ≡ widthBy (λ i. getD rows i 0) o l r k count extra
-  unfolding widthBy
-  width-one e f = rw (e, f)
+  abbrev Right : ℕ → Type 0
+  Right w = w ≡ widthBy (λ i. getD rows i 0) (head .operator) (head .left) (head .right) (head .kind) count extra
 
-  pub width-count : (o ≡ 4) ⊎ (o ≡ 6) → w ≡ count → w ≡ widthBy (λ i. getD rows i 0) o l r k count extra
-  unfolding widthBy
-  width-count (inl e) f = rw (e, f)
-  width-count (inr e) f = rw (e, f)
-
-  pub width-more : o ≡ 7 → w ≡ getD rows l 0 + extra → w ≡ widthBy (λ i. getD rows i 0) o l r k count extra
-  unfolding widthBy
-  width-more e f = rw (e, f)
-
-  module _ (h : Others o) where
-    by-kind : w ≡ cond (eqb k 2 || eqb k 3) (getD rows l 0) (getD rows l 0 + getD rows r 0) → w ≡ widthBy (λ i. getD rows i 0) o l r k count extra
+  module _ {w : ℕ} where
+    pub width-extra : head .operator ≡ 1 → w ≡ extra → Right w
     unfolding widthBy
-    by-kind f =
-        rw (ne-eqb o 1 (h .0 .0 .0 .0 .1), ne-eqb o 2 (h .0 .0 .0 .1), ne-eqb o 3 (h .0 .0 .1), ne-eqb o 4 (λ e. h .0 .1 (inl e)), ne-eqb o 6 (λ e. h .0 .1 (inr e)), ne-eqb o 7 (h .1)) f
+    width-extra e f = rw (e, f)
 
-    pub width-some : 2 ≤ k → k < 4 → w ≡ getD rows l 0 → w ≡ widthBy (λ i. getD rows i 0) o l r k count extra
-    width-some a b f = by-kind (some (eqb k 2) refl)
-      where
-        some : (t : Bool) → eqb k 2 ≡ t → w ≡ cond (t || eqb k 3) (getD rows l 0) (getD rows l 0 + getD rows r 0)
-        some true e = f
-        some false e = let n = eqb-false k 2 e in rw (eq-eqb k 3 (omega arith)) f
+    pub width-left : head .operator ≡ 2 → w ≡ first → Right w
+    unfolding widthBy
+    width-left e f = rw (e, f)
 
-    pub width-both : (k < 2) ⊎ (4 ≤ k) → w ≡ getD rows l 0 + getD rows r 0 → w ≡ widthBy (λ i. getD rows i 0) o l r k count extra
-    width-both (inl g) f = by-kind (rw (ne-eqb k 2 (λ e. omega arith), ne-eqb k 3 (λ e. omega arith)) f)
-    width-both (inr g) f = by-kind (rw (ne-eqb k 2 (λ e. omega arith), ne-eqb k 3 (λ e. omega arith)) f)
+    pub width-one : head .operator ≡ 3 → w ≡ first + 1 → Right w
+    unfolding widthBy
+    width-one e f = rw (e, f)
+
+    pub width-count : (head .operator ≡ 4) ⊎ (head .operator ≡ 6) → w ≡ count → Right w
+    unfolding widthBy
+    width-count (inl e) f = rw (e, f)
+    width-count (inr e) f = rw (e, f)
+
+    pub width-more : head .operator ≡ 7 → w ≡ first + extra → Right w
+    unfolding widthBy
+    width-more e f = rw (e, f)
+
+    module _ (h : Others (head .operator)) where
+      by-kind : w ≡ cond (eqb (head .kind) 2 || eqb (head .kind) 3) first (first + second) → Right w
+      unfolding widthBy
+      by-kind f =
+          let o = head .operator in
+          rw (ne-eqb o 1 (h .0 .0 .0 .0 .1), ne-eqb o 2 (h .0 .0 .0 .1), ne-eqb o 3 (h .0 .0 .1))
+          (rw (ne-eqb o 4 (λ e. h .0 .1 (inl e)), ne-eqb o 6 (λ e. h .0 .1 (inr e)), ne-eqb o 7 (h .1)) f)
+
+      pub width-some : 2 ≤ head .kind → head .kind < 4 → w ≡ first → Right w
+      width-some a b f = by-kind (some (eqb (head .kind) 2) refl)
+        where
+          some : (t : Bool) → eqb (head .kind) 2 ≡ t → w ≡ cond (t || eqb (head .kind) 3) first (first + second)
+          some true e = f
+          some false e = let n = eqb-false (head .kind) 2 e in rw (eq-eqb (head .kind) 3 (omega arith)) f
+
+      pub width-both : (head .kind < 2) ⊎ (4 ≤ head .kind) → w ≡ first + second → Right w
+      width-both (inl g) f = by-kind (rw (ne-eqb (head .kind) 2 (λ e. omega arith), ne-eqb (head .kind) 3 (λ e. omega arith)) f)
+      width-both (inr g) f = by-kind (rw (ne-eqb (head .kind) 2 (λ e. omega arith), ne-eqb (head .kind) 3 (λ e. omega arith)) f)
 
 -- ---- the shapes of nodes
 
@@ -122,7 +134,8 @@ module _ (widths : List ℕ) where
   shape-last out n = entry-last shapeless (shapeOf widths) out n
 
   pub shape-past : (out : List Node) (i : ℕ) → length out ≤ i → shapeAt widths out i ≡ shapeless
-  shape-past out i h = List·getD-eq-default (listFrom shapeless (shapeOf widths) [] out) shapeless {n = i} (rw (entries-length shapeless (shapeOf widths) out) h)
+  shape-past out i h =
+      List·getD-eq-default (listFrom shapeless (shapeOf widths) [] out) shapeless {n = i} (rw (entries-length shapeless (shapeOf widths) out) h)
 
   -- the first nodes of what is within the limits are so
   rows-before : (out more : List Node) → ((i : ℕ) → shapeAt widths (out ++ more) i .width ≤ 64) → (i : ℕ) → shapeAt widths out i .width ≤ 64
@@ -201,7 +214,8 @@ words-snoc : (ys : List (List ℕ)) (x : List ℕ) → each (λ w. w) (ys ++ (x 
 words-snoc ys x = each-append (λ w. w) ys (x ∷ []) ∙ ap (λ (l : List ℕ). each (λ w. w) ys ++ l) (append-nil x)
 
 -- an item is written
-pub item-written : (items items′ : List ℕ) (c c′ : Cursor) (x : List ℕ) (at : ℕ) → items′ ≡ sets items at x → at ≡ 7 * c .items → length x ≡ 7 → length items ≡ 14000
+pub item-written : (items items′ : List ℕ) (c c′ : Cursor) (x : List ℕ) (at : ℕ) → items′ ≡ sets items at x → at ≡ 7 * c .items → length x ≡ 7
+    → length items ≡ 14000
     → c .ok ≡ true → c .items < 2000 → c′ .nodes ≡ c .nodes → c′ .items ≡ c .items + 1 → c′ .ok ≡ true → Added items items′ c c′ (x ∷ [])
 item-written items items′ c c′ x at s e long size ok h cn ci co widths nodes rows out xs p =
     record { holds = λ t. written (p .holds ok); over = λ t. absurd (true≢false (sym co ∙ t)) }
@@ -222,7 +236,9 @@ item-written items items′ c c′ x at s e long size ok h cn ci co widths nodes
       count = cn ∙ q .count;
       listed = omega (arith, q .listed, length-append xs (x ∷ []));
       nodes-are = rw cn (q .nodes-are);
-      items-are = there ∙ ap (λ (l : List ℕ). l ++ x) (q .items-are) ∙ sym (words-snoc (allItems out ++ xs) x) ∙ ap (each (λ w. w)) (append-assoc (allItems out) xs (x ∷ []));
+      items-are =
+          there ∙ ap (λ (l : List ℕ). l ++ x) (q .items-are) ∙ sym (words-snoc (allItems out ++ xs) x) ∙ ap (each (λ w. w))
+          (append-assoc (allItems out) xs (x ∷ []));
       rows-are = q .rows-are;
     }
 
@@ -230,13 +246,15 @@ pub added-none : (items : List ℕ) (c : Cursor) → Added items items c c []
 added-none items c widths nodes rows out xs p = rw append-nil p
 
 -- items, and then more
-pub added-then : (a b e : List ℕ) (c d f : Cursor) (xs ys : List (List ℕ)) → Added a b c d xs → Added b e d f ys → Added a e c f (xs ++ ys)
-added-then a b e c d f xs ys g h widths nodes rows out zs p = rw append-assoc at (h widths nodes rows out (zs ++ xs) (g widths nodes rows out zs p))
+pub added-then : {a b e : List ℕ} {c d f : Cursor} (xs ys : List (List ℕ)) → Added a b c d xs → Added b e d f ys → Added a e c f (xs ++ ys)
+added-then xs ys g h widths nodes rows out zs p =
+    rw append-assoc at (h widths nodes rows out (zs ++ xs) (g widths nodes rows out zs p))
 
 -- ---- the beginning
 
 -- nothing is written
-pub page-start : (widths nodes items rows : List ℕ) → ((i : ℕ) → getD rows i 0 ≡ 0) → Page widths nodes items rows (record { nodes = 0; items = 0; ok = true }) [] []
+pub page-start : (widths nodes items rows : List ℕ) → ((i : ℕ) → getD rows i 0 ≡ 0)
+    → Page widths nodes items rows (record { nodes = 0; items = 0; ok = true }) [] []
 page-start widths nodes items rows f = record { holds = λ t. here; over = λ t. absurd (true≢false t) }
   where
     here : Holds widths nodes items rows (record { nodes = 0; items = 0; ok = true }) [] []
@@ -256,7 +274,8 @@ page-zero widths nodes items n = page-start widths nodes items (replicate n 0) (
 
 -- the words of one node more
 node-snoc : (from : ℕ) (out : List Node) (n : Node)
-    → nodeWords from (out ++ (n ∷ [])) ≡ nodeWords from out ++ (parts n .operator ∷ parts n .left ∷ parts n .right ∷ parts n .kind ∷ (from + length (allItems out)) ∷ length (parts n .items) ∷ [])
+    → nodeWords from (out ++ (n ∷ []))
+    ≡ nodeWords from out ++ (parts n .operator ∷ parts n .left ∷ parts n .right ∷ parts n .kind ∷ (from + length (allItems out)) ∷ length (parts n .items) ∷ [])
 node-snoc from [] n = rw (add-zero from)
 node-snoc from (m ∷ out) n = rw (node-snoc (from + length (parts m .items)) out n, length-append, add-assoc)
 
@@ -274,14 +293,16 @@ module _ (nodes rows : List ℕ) (c : Cursor) (first : ℕ) (head : Head) (extra
     }
 
     module _ (w : ℕ) (width : w ≡ widthBy (λ i. getD rows i 0) (head .operator) (head .left) (head .right) (head .kind) (c .items - first) extra) where
-      module _ (widths items : List ℕ) (out : List Node) (n : Node) (q : Holds widths nodes items rows c out (parts n .items)) (h : Headed widths out c first head extra n) where
+      module _ (widths items : List ℕ) (out : List Node) (n : Node) (q : Holds widths nodes items rows c out (parts n .items))
+          (h : Headed widths out c first head extra n) where
         counted : c .items - first ≡ length (parts n .items)
         counted = omega (arith, q .listed, h .first-is ok)
 
         width-is : w ≡ shapeAt widths (out ++ (n ∷ [])) (length out) .width
         width-is =
             width
-            ∙ width-same (λ i. getD rows i 0) (λ i. shapeAt widths out i .width) (head .operator) (head .left) (head .right) (head .kind) (c .items - first) extra (q .rows-are (head .left)) (q .rows-are (head .right))
+            ∙ width-same (λ i. getD rows i 0) (λ i. shapeAt widths out i .width) (head .operator) (head .left) (head .right) (head .kind)
+            (c .items - first) extra (q .rows-are (head .left)) (q .rows-are (head .right))
             ∙ rw (h .operator, h .left, h .right, h .kind, counted, h .extra-is) (sym (width-by widths (λ i. shapeAt widths out i .width) n))
             ∙ sym (ap (λ (s : Shape). s .width) (shape-last widths out n))
 
@@ -293,7 +314,8 @@ module _ (nodes rows : List ℕ) (c : Cursor) (first : ℕ) (head : Head) (extra
       }
 
       -- it is written
-      pub node-written : (nodes′ rows′ : List ℕ) (at : ℕ) → nodes′ ≡ sets nodes at (head .operator ∷ head .left ∷ head .right ∷ head .kind ∷ first ∷ (c .items - first) ∷ [])
+      pub node-written : (nodes′ rows′ : List ℕ) (at : ℕ)
+          → nodes′ ≡ sets nodes at (head .operator ∷ head .left ∷ head .right ∷ head .kind ∷ first ∷ (c .items - first) ∷ [])
           → at ≡ 6 * c .nodes → length nodes ≡ 1536 → rows′ ≡ set rows (c .nodes) w → length rows ≡ 256 → c .nodes < 256 → w ≤ 64
           → c′ .nodes ≡ c .nodes + 1 → c′ .items ≡ c .items → c′ .ok ≡ true → Pushed nodes nodes′ rows rows′ c c′ first head extra
       node-written nodes′ rows′ at s e long r wide few narrow cn ci co widths items out n p h =
@@ -348,4 +370,5 @@ module _ (nodes rows : List ℕ) (c : Cursor) (first : ℕ) (head : Head) (extra
               here = ap (λ (k : ℕ). getD (set rows (c .nodes) w) k 0) (sym (q .count)) ∙ getD-set-same rows (c .nodes) w 0 (omega arith) ∙ is
 
               behind : (i : ℕ) → length out < i → getD (set rows (c .nodes) w) i 0 ≡ 0
-              behind i g = getD-set-other rows (c .nodes) i w 0 (λ t. omega arith) ∙ q .rows-are i ∙ ap (λ (s : Shape). s .width) (shape-past widths out i (omega arith))
+              behind i g =
+                  getD-set-other rows (c .nodes) i w 0 (λ t. omega arith) ∙ q .rows-are i ∙ ap (λ (s : Shape). s .width) (shape-past widths out i (omega arith))

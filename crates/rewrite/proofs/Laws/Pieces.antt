@@ -61,7 +61,8 @@ module _ (widths : List ℕ) where
       go false = refl
 
   -- a closed node is written, an open one is not
-  pub step-closed : (s : State) (n : Node) → closed (shapeOf widths (λ i. pieceAt s i .shape) n) ≡ true → step widths s n .out ≡ closedNode (pieceAt s) n (s .out) .out
+  pub step-closed : (s : State) (n : Node) → closed (shapeOf widths (λ i. pieceAt s i .shape) n) ≡ true
+      → step widths s n .out ≡ closedNode (pieceAt s) n (s .out) .out
   unfolding step
   step-closed s n e = rw e
 
@@ -174,7 +175,9 @@ module _ (ws : List ℕ) (f : Formed ws) (images : ℕ → ℕ) where
           rw c (record {
             shape = is;
             image = λ t. absurd (true≢false (sym t ∙ c));
-            put = fun-ext (λ D. fun-ext (λ out. rw e (open-alike (pieceAt (after ws k)) (piece ws images fuel) (nodeAt ws k) (every-map before (inputs-below ws f k h)) D out)));
+            put =
+                fun-ext (λ D. fun-ext (λ out. rw e (open-alike (pieceAt (after ws k)) (piece ws images fuel) (nodeAt ws k)
+                (every-map before (inputs-below ws f k h)) D out)));
           })
 
   -- all pieces so far
@@ -184,7 +187,8 @@ module _ (ws : List ℕ) (f : Formed ws) (images : ℕ → ℕ) where
   pieces-alike (suc k) h placed i (suc fuel) g e =
       go (pieces-alike k (omega arith) (λ j l t. placed j (omega arith) t ∙ ap (λ (p : Piece). p .image) (piece-before ws k j l))) (ltb i k) refl
     where
-      go : ((j n : ℕ) → j < k → j < n → Alike (pieceAt (after ws k) j) (piece ws images n j)) → (b : Bool) → ltb i k ≡ b → Alike (pieceAt (after ws (suc k)) i) (piece ws images (suc fuel) i)
+      go : ((j n : ℕ) → j < k → j < n → Alike (pieceAt (after ws k) j) (piece ws images n j)) → (b : Bool) → ltb i k ≡ b
+          → Alike (pieceAt (after ws (suc k)) i) (piece ws images (suc fuel) i)
       go before true t = rw (piece-before ws k i (ltb-true i k t)) (before i (suc fuel) (ltb-true i k t) e)
       go before false t =
           let q : i ≡ k = omega (arith, ltb-false i k t) in
@@ -213,14 +217,17 @@ module _ (ws : List ℕ) (a : Accepted ws) where
     unfolding columnsRight
     node-legal =
         let e : nodes ws ≡ k + (nodes ws - k) = omega arith in
-        let whole : nodesOf ws ≡ first ws k ++ map (λ i. nodeAt ws (k + i)) (upto (nodes ws - k)) = ap (first ws) e ∙ numbered-add (nodeAt ws) k (nodes ws - k) in
+        let whole : nodesOf ws ≡ first ws k ++ map (λ i. nodeAt ws (k + i)) (upto (nodes ws - k)) =
+        ap (first ws) e ∙ numbered-add (nodeAt ws) k (nodes ws - k) in
         let all : Legal (widthsOf ws) (nodesOf ws) (nodeAt ws k) = (scopeOf ws k, a .columns k h) in
         legal-before (widthsOf ws) (first ws k) _ (nodeAt ws k) node-front (subst (λ (l : List Node). Legal (widthsOf ws) l (nodeAt ws k)) whole all)
 
   built : (k : ℕ) → k ≤ nodes ws → Built (widthsOf ws) (first ws k) (after ws k)
   unfolding steps
   built zero h = record { shaped = shaped-none (widthsOf ws); pieces = done; sound = no-node }
-  built (suc k) h = rw (after-suc ws k, first-suc ws k) (built-step (widthsOf ws) (first ws k) (after ws k) (nodeAt ws k) (built k (omega arith)) (node-front k h) (node-legal k h))
+  built (suc k) h =
+      rw (after-suc ws k, first-suc ws k)
+      (built-step (widthsOf ws) (first ws k) (after ws k) (nodeAt ws k) (built k (omega arith)) (node-front k h) (node-legal k h))
 
   pub copies-stand : (images : ℕ → ℕ) (k : ℕ) → k ≤ nodes ws → Placing ws images k → Copies ws images k (after ws k .out)
   copies-stand images k h placed i g c =
@@ -229,6 +236,7 @@ module _ (ws : List ℕ) (a : Accepted ws) where
       rw (placed i g c) (record { inside = has .inside; width = has .width ∙ ap (λ (s : Shape). s .width) is })
 
   -- the nodes of the rewriting have their columns
-  pub columns-there : (n : ℕ) (d : Node) → n < length (newPlan ws) → columnsThere (λ i. shapeAt (widthsOf ws) (newPlan ws) i .width) [] (getD (newPlan ws) n d) ≡ true
+  pub columns-there : (n : ℕ) (d : Node) → n < length (newPlan ws)
+      → columnsThere (λ i. shapeAt (widthsOf ws) (newPlan ws) i .width) [] (getD (newPlan ws) n d) ≡ true
   unfolding rewritten
   columns-there n d h = rw append-nil at (sound-at (widthsOf ws) (built (nodes ws) (omega arith) .sound) [] n d h)

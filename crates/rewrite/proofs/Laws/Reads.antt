@@ -79,7 +79,8 @@ module _ (ws : List ℕ) (j k n : ℕ) (table : List ℕ) {code : ℕ} (ec : cod
     term-far h = added-none n _ table (λ x y hx hy. rw (ne-eqb (threeAt ws j k .level) x (λ q. omega arith), and-false))
 
     pub term-wide : 64 ≤ p → Added n (termRead (threeAt ws j k)) table table
-    term-wide h = added-none n _ table (λ x y hx hy. rw (ne-eqb (threeAt ws j k .value) y (λ q. omega arith), and-false (eqb (threeAt ws j k .level) x), and-false))
+    term-wide h =
+        added-none n _ table (λ x y hx hy. rw (ne-eqb (threeAt ws j k .value) y (λ q. omega arith), and-false (eqb (threeAt ws j k .level) x), and-false))
 
     -- an outer column
     pub term-outer : code ≡ 1 → n < 256 → l < 8 → length table ≡ 2048 → {i q v : ℕ} → i ≡ n → q ≡ l → v ≡ bitOr (getD table (8 * i + q) 0) (2 ^ p)
@@ -105,7 +106,8 @@ module _ (t₀ : List ℕ) (n i skip : ℕ) where
       → Added n (levelsRead t₀ i skip (l + 1)) t₀ (set t (8 * a + b) (bitOr (getD t (8 * a + b) 0) (getD t (8 * c + d) 0)))
   levels-more {t} l hn hi e before h ea eb ec ed =
       rw (ea, eb, ec, ed)
-      (added-same (added-both before (added-at t n l _ (inSet (getD t (8 * i + (l + skip)) 0)) hn (omega arith) (before .size ∙ e) (in-or (getD t (8 * n + l) 0) (getD t (8 * i + (l + skip)) 0))))
+      (added-same (added-both before (added-at t n l _ (inSet (getD t (8 * i + (l + skip)) 0)) hn (omega arith) (before .size ∙ e)
+      (in-or (getD t (8 * n + l) 0) (getD t (8 * i + (l + skip)) 0))))
       (λ k p hk hp. go k p hk hp (ltb k l) refl (eqb l k) refl))
     where
       go : (k p : ℕ) → k < 8 → p < 64 → (x : Bool) → ltb k l ≡ x → (y : Bool) → eqb l k ≡ y
@@ -150,12 +152,12 @@ added-reads : {n : ℕ} {f g : ℕ → ℕ → Bool} {t u v : List ℕ} (cs ds :
     → ((l p : ℕ) → l < 8 → p < 64 → f l p ≡ reads cs l p) → ((l p : ℕ) → l < 8 → p < 64 → g l p ≡ reads ds l p) → Added n (reads (cs ++ ds)) t v
 added-reads cs ds a b e g = added-same (added-both a b) (λ l p hl hp. ap₂ _||_ (e l p hl hp) (g l p hl hp) ∙ sym (reads-append cs ds l p))
 
-module _ (ws : List ℕ) (accepted : Accepted ws) (n : ℕ) (h : n < nodes ws) {t : List ℕ} (filled : Filled ws n t) {o : ℕ} (eo : o ≡ operator ws n) where
+module _ {ws : List ℕ} (accepted : Accepted ws) {n : ℕ} (h : n < nodes ws) {t : List ℕ} (filled : Filled ws n t) {o : ℕ} (eo : o ≡ operator ws n) where
   facts : NodeFacts ws n
   facts = facts-at ws (accepted .formed) n h
 
   few : n < 256
-  few = node-index ws accepted n h refl
+  few = node-index accepted h refl
 
   -- a scan has none
   pub inputs-none : o ≡ 1 → Added n (reads (inputReads ws n)) t t
@@ -179,7 +181,12 @@ module _ (ws : List ℕ) (accepted : Accepted ws) (n : ℕ) (h : n < nodes ws) {
       -- a left input alone
       pub inputs-one : ((o ≡ 5) ⊎ (o ≡ 7) → ⊥) → (o ≡ 8 → ⊥) → Added n (reads (inputReads ws n)) t u
       inputs-one f g =
-          rw (ne-eqb (operator ws n) 1 (λ q. ho (eo ∙ q)), ne-eqb (operator ws n) 5 (λ q. f (inl (eo ∙ q))), ne-eqb (operator ws n) 7 (λ q. f (inr (eo ∙ q))), ne-eqb (operator ws n) 8 (λ q. g (eo ∙ q)))
+          rw (
+            ne-eqb (operator ws n) 1 (λ q. ho (eo ∙ q)),
+            ne-eqb (operator ws n) 5 (λ q. f (inl (eo ∙ q))),
+            ne-eqb (operator ws n) 7 (λ q. f (inr (eo ∙ q))),
+            ne-eqb (operator ws n) 8 (λ q. g (eo ∙ q)),
+          )
           (added-same a left-reads)
 
       module _ {j : ℕ} (ej : j ≡ right ws n) where
@@ -203,14 +210,17 @@ module _ (ws : List ℕ) (accepted : Accepted ws) (n : ℕ) (h : n < nodes ws) {
         inputs-both e {v} b = ⊎-elim (λ (q : o ≡ 5). rw (sym eo ∙ q) pair) (λ (q : o ≡ 7). rw (sym eo ∙ q) pair) e
           where
             pair : Added n (reads (readsAt ws (left ws n) ++ readsAt ws (right ws n))) t v
-            pair = added-reads (readsAt ws (left ws n)) (readsAt ws (right ws n)) a b left-reads (rw ej (input-read ws n u table-then (right ws n) (right-below (both-right e))))
+            pair =
+                added-reads (readsAt ws (left ws n)) (readsAt ws (right ws n)) a b left-reads
+                (rw ej (input-read ws n u table-then (right ws n) (right-below (both-right e))))
 
         -- a dependent join
         pub inputs-past : o ≡ 8 → {v : List ℕ} → Added n (inputRead u j 1) u v → Added n (reads (inputReads ws n)) t v
         inputs-past e b =
             let below = right-below (past-right e) in
             rw (sym eo ∙ e)
-            (added-reads (readsAt ws (left ws n)) (past (readsAt ws (right ws n))) a b left-reads (rw ej (input-past ws n u table-then (right ws n) below (reads-low ws (accepted .formed) (right ws n) (omega arith)))))
+            (added-reads (readsAt ws (left ws n)) (past (readsAt ws (right ws n))) a b left-reads
+            (rw ej (input-past ws n u table-then (right ws n) below (reads-low ws (accepted .formed) (right ws n) (omega arith)))))
 
 -- ---- the items of a node
 
@@ -219,7 +229,8 @@ module _ (ws : List ℕ) (n a : ℕ) where
   items-none {t} = added-none n (reads []) t (λ l p hl hp. refl)
 
   -- one item more
-  pub items-more : (i : ℕ) {t u v w : List ℕ} → Added n (reads (each itemReads (itemsFrom ws a i))) t u → Added n (termRead (threeAt ws (a + i) 1)) u v → Added n (termRead (threeAt ws (a + i) 4)) v w
+  pub items-more : (i : ℕ) {t u v w : List ℕ} → Added n (reads (each itemReads (itemsFrom ws a i))) t u
+      → Added n (termRead (threeAt ws (a + i) 1)) u v → Added n (termRead (threeAt ws (a + i) 4)) v w
       → Added n (reads (each itemReads (itemsFrom ws a (i + 1)))) t w
   items-more i x y z = added-same (added-both x (added-both y z)) (λ l p hl hp. sym (more-reads l p))
     where
@@ -229,15 +240,24 @@ module _ (ws : List ℕ) (n a : ℕ) where
       last : List Column
       last = itemReads (itemAt ws (a + i))
 
-      more-reads : (l p : ℕ) → reads (each itemReads (itemsFrom ws a (i + 1))) l p ≡ (reads front l p || (termRead (threeAt ws (a + i) 1) l p || termRead (threeAt ws (a + i) 4) l p))
+      more-reads : (l p : ℕ)
+          → reads (each itemReads (itemsFrom ws a (i + 1))) l p
+          ≡ (reads front l p || (termRead (threeAt ws (a + i) 1) l p || termRead (threeAt ws (a + i) 4) l p))
       more-reads l p =
-          rw (add-one i, map-append (λ k. itemAt ws (a + k)) (upto i) (i ∷ []), each-append itemReads (itemsFrom ws a i) (itemAt ws (a + i) ∷ []), append-nil last)
+          rw (
+            add-one i,
+            map-append (λ k. itemAt ws (a + k)) (upto i) (i ∷ []),
+            each-append itemReads (itemsFrom ws a i)
+                (itemAt ws (a + i) ∷ []),
+            append-nil last,
+          )
           (reads-append front last l p ∙ ap (λ (b : Bool). reads front l p || b) (item-reads (itemAt ws (a + i)) l p))
 
 -- ---- all nodes
 
 -- a node is done
-pub node-filled : (ws : List ℕ) → Accepted ws → (n : ℕ) → n < nodes ws → {t u v : List ℕ} → Filled ws n t → Added n (reads (inputReads ws n)) t u → {a count i : ℕ} → a ≡ firstItem ws n → count ≡ itemCount ws n
+pub node-filled : (ws : List ℕ) → Accepted ws → (n : ℕ) → n < nodes ws → {t u v : List ℕ} → Filled ws n t
+    → Added n (reads (inputReads ws n)) t u → {a count i : ℕ} → a ≡ firstItem ws n → count ≡ itemCount ws n
     → Added n (reads (each itemReads (itemsFrom ws a i))) u v → count ≤ i → i ≤ count → Filled ws (n + 1) v
 node-filled ws accepted n h {t} {u} {v} filled inputs {a} {count} {i} ea ec items g k = record {
   size = items .size ∙ inputs .size ∙ filled .size;
@@ -249,7 +269,7 @@ node-filled ws accepted n h {t} {u} {v} filled inputs {a} {count} {i} ea ec item
     before m l p d hm hl hp = added-other items m l p d hm hl hp ∙ added-other inputs m l p d hm hl hp
 
     few : n < 256
-    few = node-index ws accepted n h refl
+    few = node-index accepted h refl
 
     own : Added n (reads (each itemReads (itemsOf ws n))) u v
     own = let q : i ≡ itemCount ws n = omega arith in rw (ea, q) at items

@@ -13,7 +13,8 @@ use Rattle.algebra.specs.Domains.{Domain, moveTerm, moveConjunct, moveComputati
 use Rattle.algebra.proofs.Lists.Every.{every-of, every-map}
 use Rattle.algebra.proofs.Lists.Keep.{keep-all, map-append, map-map, map-cong, map-id}
 use Rattle.plan.specs.Words.{Item}
-use Rattle.plan.specs.Items.{isConjunct, termOf, testOf, conjunctOf, computationOf, positionOf, aggregateOf, conjunctsIn, conjunctRight, computationRight, isLocal, isUnused, aggregateRight}
+use Rattle.plan.specs.Items.{isConjunct, termOf, testOf, conjunctOf, computationOf, positionOf}
+use Rattle.plan.specs.Items.{aggregateOf, conjunctsIn, conjunctRight, computationRight, isLocal, isUnused, aggregateRight}
 use Rattle.plan.specs.Plan.{kindOf}
 use Rattle.plan.specs.Encoding.{termWords, unused, testTag, conjunctWords, computationWords, positionWords, aggregateWords, kindWord, parts}
 use Rattle.plan.proofs.Laws.Header.{both, between-says}
@@ -53,7 +54,8 @@ module _ (D : Domain) (f : ℕ → ℕ) where
 
 module _ (w : ℕ) where
   -- a key, an output column
-  position-shifted : (tag : ℕ) → eqb tag 13 ≡ false → (x : Item) → (eqb (x .tag) tag && (isLocal (x .first) && isUnused (x .second))) ≡ true → shiftedWords w x ≡ positionWords tag (shift w (positionOf x))
+  position-shifted : (tag : ℕ) → eqb tag 13 ≡ false → (x : Item) → (eqb (x .tag) tag && (isLocal (x .first) && isUnused (x .second))) ≡ true
+      → shiftedWords w x ≡ positionWords tag (shift w (positionOf x))
   unfolding shiftedWords
   position-shifted tag f x e = rw (eqb-true (x .tag) tag (both (eqb (x .tag) tag) _ e .0), f)
 
@@ -80,18 +82,23 @@ aggregate-copied x e = ap itemWords (sym (aggregate-again x e)) ∙ same (aggreg
 -- ---- a list of items
 
 -- items that are read, moved and written
-moved-list : {A B : Type 0} (new : Item → List ℕ) (words : B → List ℕ) (move : A → B) (read : Item → A) {xs : List Item} → Every (λ x. new x ≡ words (move (read x))) xs
+moved-list : {A B : Type 0} (new : Item → List ℕ) (words : B → List ℕ) (move : A → B) (read : Item → A) {xs : List Item}
+    → Every (λ x. new x ≡ words (move (read x))) xs
     → map new xs ≡ map words (map move (map read xs))
-moved-list new words move read {xs} t = map-cong new (λ x. words (move (read x))) t ∙ sym (ap (map words) (map-map move read xs) ∙ map-map words (λ x. move (read x)) xs)
+moved-list new words move read {xs} t =
+    map-cong new (λ x. words (move (read x))) t ∙ sym (ap (map words) (map-map move read xs) ∙ map-map words (λ x. move (read x)) xs)
 
-pub conjuncts-moved : (D : Domain) (f : ℕ → ℕ) (xs : List Item) → Every (λ x. conjunctRight x ≡ true) xs → map (movedWords D f) xs ≡ map conjunctWords (map (moveConjunct D f) (map conjunctOf xs))
+pub conjuncts-moved : (D : Domain) (f : ℕ → ℕ) (xs : List Item) → Every (λ x. conjunctRight x ≡ true) xs
+    → map (movedWords D f) xs ≡ map conjunctWords (map (moveConjunct D f) (map conjunctOf xs))
 conjuncts-moved D f xs t = moved-list (movedWords D f) conjunctWords (moveConjunct D f) conjunctOf (every-map (conjunct-moved D f) t)
 
-pub positions-shifted : (w tag : ℕ) → eqb tag 13 ≡ false → (xs : List Item) → Every (λ x. (eqb (x .tag) tag && (isLocal (x .first) && isUnused (x .second))) ≡ true) xs
+pub positions-shifted : (w tag : ℕ) → eqb tag 13 ≡ false → (xs : List Item)
+    → Every (λ x. (eqb (x .tag) tag && (isLocal (x .first) && isUnused (x .second))) ≡ true) xs
     → map (shiftedWords w) xs ≡ map (positionWords tag) (map (shift w) (map positionOf xs))
 positions-shifted w tag f xs t = moved-list (shiftedWords w) (positionWords tag) (shift w) positionOf (every-map (position-shifted w tag f) t)
 
-pub aggregates-shifted : (w : ℕ) (xs : List Item) → Every (λ x. aggregateRight x ≡ true) xs → map (shiftedWords w) xs ≡ map aggregateWords (map (moveAggregate (shift w)) (map aggregateOf xs))
+pub aggregates-shifted : (w : ℕ) (xs : List Item) → Every (λ x. aggregateRight x ≡ true) xs
+    → map (shiftedWords w) xs ≡ map aggregateWords (map (moveAggregate (shift w)) (map aggregateOf xs))
 aggregates-shifted w xs t = moved-list (shiftedWords w) aggregateWords (moveAggregate (shift w)) aggregateOf (every-map (aggregate-shifted w) t)
 
 pub aggregates-copied : (xs : List Item) → Every (λ x. aggregateRight x ≡ true) xs → map itemWords xs ≡ map aggregateWords (map aggregateOf xs)
@@ -137,11 +144,13 @@ module _ (D : Domain) (cs : List Conjunct) (xs : List Item) (e : cs ≡ map conj
   conjuncts-alike = ap (λ (f : ℕ → ℕ). map (movedWords D f) xs) (shift-both (D .width)) ∙ conjuncts-moved D (shift (D .width)) xs t ∙ rw e
 
   -- with tags 7 in front
-  pub conjuncts-behind : (ms : List Conjunct) (f : ℕ → ℕ) → map conjunctWords ms ++ map (movedWords D f) xs ≡ map conjunctWords (ms ++ map (moveConjunct D f) cs)
+  pub conjuncts-behind : (ms : List Conjunct) (f : ℕ → ℕ)
+      → map conjunctWords ms ++ map (movedWords D f) xs ≡ map conjunctWords (ms ++ map (moveConjunct D f) cs)
   conjuncts-behind ms f = rw (map-append conjunctWords ms (map (moveConjunct D f) cs), conjuncts-moved D f xs t, e)
 
 -- D's columns, then a node's own
-pub columns-first : (D : Domain) (tag : ℕ) → eqb tag 13 ≡ false → (ps : List ℕ) (xs : List Item) → ps ≡ map positionOf xs → Every (λ x. (eqb (x .tag) tag && (isLocal (x .first) && isUnused (x .second))) ≡ true) xs
+pub columns-first : (D : Domain) (tag : ℕ) → eqb tag 13 ≡ false → (ps : List ℕ) (xs : List Item) → ps ≡ map positionOf xs
+    → Every (λ x. (eqb (x .tag) tag && (isLocal (x .first) && isUnused (x .second))) ≡ true) xs
     → map (positionWords tag) (span 0 (D .width)) ++ map (shiftedWords (D .width)) xs ≡ map (positionWords tag) (domainFirst D ps)
 columns-first D tag f ps xs e t =
     rw (span-first (D .width), map-append (positionWords tag) (upto (D .width)) (map (shift (D .width)) ps), positions-shifted (D .width) tag f xs t, e)

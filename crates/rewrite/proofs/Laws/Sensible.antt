@@ -8,9 +8,11 @@ use lib.Dec.{ltb}
 use lib.ListN.{length, length-append, length-map}
 use borrow.Author.Tests.{ltb-true}
 use Rattle.algebra.specs.Lists.{Every, done, each, isEmpty, keep, more, upto}
-use Rattle.algebra.specs.Plan.{Computation, Conjunct, Kind, Node, Term, add, anti, column, compute, constant, copy, dependent, group, groupjoin, inner, inputs, join, joinWidth, left-outer, nothing, outer, project, scan, select, semi, subtract, widthOf}
+use Rattle.algebra.specs.Plan.{Computation, Conjunct, Kind, Node, Term, add, anti, column, compute, constant, copy, dependent, group}
+use Rattle.algebra.specs.Plan.{groupjoin, inner, inputs, join, joinWidth, left-outer, nothing, outer, project, scan, select, semi, subtract, widthOf}
 use Rattle.algebra.specs.Columns.{Column, past}
-use Rattle.algebra.specs.Domains.{Domain, around, below, domainFirst, domainKeys, match, moveComputation, moveConjunct, moveTerm, shiftBoth, underBoth, underInner}
+use Rattle.algebra.specs.Domains.{Domain, around, below, domainFirst, domainKeys, match}
+use Rattle.algebra.specs.Domains.{moveComputation, moveConjunct, moveTerm, shiftBoth, underBoth, underInner}
 use Rattle.algebra.specs.Statements.{InLeft}
 use Rattle.algebra.proofs.Lists.Every.{every-append, every-both, every-head, every-in, every-map, every-mapped}
 use Rattle.algebra.proofs.Lists.Keep.{each-append}
@@ -101,7 +103,8 @@ pub around-some : (n m w : ℕ) → 0 < n → 0 < length (around n m w)
 around-some n m w h = simp (length-append, length-map, length-upto) (omega arith)
 
 -- the keys of a domain over which something is read
-pub keys-some : (D : Domain) (w : ℕ) (reads : List Column) → isEmpty reads ≡ false → Every (λ c. InLeft w (c .level) (c .position)) reads → Held D (past reads) → 0 < length (domainKeys D w reads)
+pub keys-some : (D : Domain) (w : ℕ) (reads : List Column) → isEmpty reads ≡ false → Every (λ c. InLeft w (c .level) (c .position)) reads
+    → Held D (past reads) → 0 < length (domainKeys D w reads)
 keys-some D w [] e il h = absurd (true≢false e)
 keys-some D w (c ∷ cs) e il h = omega (arith, every-head (inner-held D w (c ∷ cs) 0 il h))
 
@@ -115,7 +118,8 @@ join-some anti l r h = h
 join-some left-outer l r h = omega arith
 
 -- a sensible node over inputs with columns has a column
-pub width-some : (widths : List ℕ) → Every (λ w. (1 ≤ w) × (w ≤ 64)) widths → (at : ℕ → ℕ) (n : Node) → Sensible (length widths) n → Every (λ i. 0 < at i) (inputs n) → 0 < widthOf widths at n
+pub width-some : (widths : List ℕ) → Every (λ w. (1 ≤ w) × (w ≤ 64)) widths → (at : ℕ → ℕ) (n : Node) → Sensible (length widths) n
+    → Every (λ i. 0 < at i) (inputs n) → 0 < widthOf widths at n
 width-some widths ws at (scan t) h is = every-in 0 ws t h .0
 width-some widths ws at (select cs i) h is = every-head is
 width-some widths ws at (compute c i) h is = omega arith
@@ -144,12 +148,26 @@ sensible-node T (join k cs l r) h e = tt
 sensible-node T (group ks gs i) h e =
     let xs : List Item = map (positionItem 11) ks in
     let ys : List Item = map aggregateItem gs in
-    omega (arith, length-map ks (positionItem 11), length-map gs aggregateItem, length-append xs ys, not-empty (xs ++ ys) (and-left (not (isEmpty (xs ++ ys))) _ e))
+    omega (
+      arith,
+      length-map ks (positionItem 11),
+      length-map gs aggregateItem,
+      length-append xs ys,
+      not-empty (xs ++ ys)
+          (and-left (not (isEmpty (xs ++ ys))) _ e),
+    )
 sensible-node T (groupjoin cs gs l r) h e =
     let xs : List Item = map conjunctItem cs in
     let ys : List Item = map aggregateItem gs in
-    let m : length (keep isConjunct (xs ++ ys)) ≡ length xs = ap length (keep-front conjunctItem aggregateItem isConjunct cs gs (λ c. tag-low (c .test)) aggregate-not-conjunct) in
-    omega (arith, length-map gs aggregateItem, length-append xs ys, ltb-true (length (keep isConjunct (xs ++ ys))) (length (xs ++ ys)) (and-left (ltb (length (keep isConjunct (xs ++ ys))) (length (xs ++ ys))) _ e))
+    let m : length (keep isConjunct (xs ++ ys)) ≡ length xs =
+    ap length (keep-front conjunctItem aggregateItem isConjunct cs gs (λ c. tag-low (c .test)) aggregate-not-conjunct) in
+    omega (
+      arith,
+      length-map gs aggregateItem,
+      length-append xs ys,
+      ltb-true (length (keep isConjunct (xs ++ ys))) (length (xs ++ ys))
+          (and-left (ltb (length (keep isConjunct (xs ++ ys))) (length (xs ++ ys))) _ e),
+    )
 sensible-node T (dependent k cs l r) h e = tt
 
 module _ (ws : List ℕ) (f : Formed ws) (small : Every (λ w. w < 2 ^ 32) ws) where

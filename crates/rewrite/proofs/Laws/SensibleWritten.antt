@@ -10,13 +10,15 @@ use Rattle.algebra.specs.Lists.{Every, done, each, isEmpty, more, upto}
 use Rattle.algebra.specs.Plan.{Conjunct, Kind, Node, anti, compute, dependent, group, groupjoin, inner, join, left-outer, project, scan, select, semi}
 use Rattle.algebra.specs.Columns.{Shape, closed, computationReads, conjunctReads, past, readsLeft, shapeAt, shapeOf}
 use Rattle.algebra.specs.Domains.{Domain, around, domainKeys, innerDomain, inside, outside}
-use Rattle.algebra.specs.Rewriting.{Piece, Placed, State, addPiece, closedNode, closedPut, dropping, emit, joinClosed, joinOpen, joinUnder, missing, openUnder, pieceAt, rewritten, step, steps, unnest}
+use Rattle.algebra.specs.Rewriting.{Piece, Placed, State, addPiece, closedNode, closedPut, dropping, emit, joinClosed}
+use Rattle.algebra.specs.Rewriting.{joinOpen, joinUnder, missing, openUnder, pieceAt, rewritten, step, steps, unnest}
 use Rattle.algebra.specs.Statements.{Fine, FineFrom, InLeft}
 use Rattle.algebra.proofs.Lists.Every.{any-some, every-append, every-back, every-front, every-head, every-in, every-map, every-tail}
 use Rattle.algebra.proofs.Tables.Tidy.{closed-back, closed-every}
 use Rattle.algebra.proofs.Tables.Fine.{fine-below}
 use Rattle.rewrite.proofs.Laws.Columns.{Held, inner-held, inside-held}
-use Rattle.rewrite.proofs.Laws.Sensible.{Fit, Stored, around-some, both-stored, computation-stored, conjuncts-stored, first-some, inner-stored, keys-some, match-stored, width-some}
+use Rattle.rewrite.proofs.Laws.Sensible.{Fit, Stored, around-some, both-stored, computation-stored}
+use Rattle.rewrite.proofs.Laws.Sensible.{conjuncts-stored, first-some, inner-stored, keys-some, match-stored, width-some}
 use Rattle.rewrite.proofs.Laws.Shaped.{Shaped, shaped-none, shaped-step, shapes-are}
 
 module _ (T : ℕ) where
@@ -46,7 +48,8 @@ module _ (T : ℕ) where
   dropping-fits left-outer n m w x h t = one-fits _ t (around-some n m w h, done)
 
   -- a dependent join, its left in place
-  unnest-fits : (k : Kind) (cs : List Conjunct) (l r : Piece) (D : Domain) (x : Placed) → 0 < l .shape .width → Sane r → Stored cs → isEmpty (r .shape .reads) ≡ false
+  unnest-fits : (k : Kind) (cs : List Conjunct) (l r : Piece) (D : Domain) (x : Placed) → 0 < l .shape .width → Sane r → Stored cs
+      → isEmpty (r .shape .reads) ≡ false
       → Every (λ e. InLeft (l .shape .width) (e .level) (e .position)) (r .shape .reads) → Held D (past (r .shape .reads)) → Fits x → Fits (unnest k cs l r D x)
   unfolding unnest
   unnest-fits k cs l r D x wl hr s o il h t =
@@ -55,10 +58,12 @@ module _ (T : ℕ) where
       let g : Placed = emit (group ks [] (x .at)) (x .out) in
       let some = keys-some D w (r .shape .reads) o il h in
       dropping-fits k (D .width + w) (length ks) (r .shape .width) _ (omega arith)
-      (one-fits _ (hr .puts (innerDomain D w (r .shape .reads) (g .at)) (g .out) (inner-held D w (r .shape .reads) (g .at) il h) (one-fits _ t (rw (add-zero (length ks)) some, done))) (tt, inner-stored D w cs s ks))
+      (one-fits _ (hr .puts (innerDomain D w (r .shape .reads) (g .at)) (g .out) (inner-held D w (r .shape .reads) (g .at) il h)
+      (one-fits _ t (rw (add-zero (length ks)) some, done))) (tt, inner-stored D w cs s ks))
 
   -- a join of two sides under their domains
-  join-fits : (k : Kind) (cs : List Conjunct) (l r : Piece) (D E : Domain) (out : List Node) → Sane l → Sane r → Stored cs → Held D (l .shape .reads) → Held E (r .shape .reads)
+  join-fits : (k : Kind) (cs : List Conjunct) (l r : Piece) (D E : Domain) (out : List Node) → Sane l → Sane r → Stored cs → Held D (l .shape .reads)
+      → Held E (r .shape .reads)
       → Every (Fit T) out → Fits (joinUnder k cs l r D E out)
   unfolding joinUnder joinClosed joinOpen
   join-fits k cs l r D E out hl hr s dl er t =
@@ -66,7 +71,8 @@ module _ (T : ℕ) where
       let u : Fits x = hl .puts D out dl t in
       choice-fits (closed (r .shape)) _ _
       (λ e. one-fits _ u (tt, conjuncts-stored D _ cs s))
-      (λ e. dropping-fits k (D .width + l .shape .width) (D .width) (r .shape .width) _ (omega (arith, hl .wide)) (one-fits _ (hr .puts E (x .out) er u) (tt, both-stored D (l .shape .width) cs s)))
+      (λ e. dropping-fits k (D .width + l .shape .width) (D .width) (r .shape .width) _ (omega (arith, hl .wide))
+      (one-fits _ (hr .puts E (x .out) er u) (tt, both-stored D (l .shape .width) cs s)))
 
   module _ (widths : List ℕ) (at : ℕ → Piece) (count : ℕ) (sane : (i : ℕ) → i < count → Sane (at i)) where
     -- the shapes of the pieces
@@ -74,7 +80,8 @@ module _ (T : ℕ) where
     sh i = at i .shape
 
     -- an open node under a domain
-    open-fits : (n : Node) → Fine sh count n → Fit T n → isEmpty (shapeOf widths sh n .reads) ≡ false → (D : Domain) (out : List Node) → Held D (shapeOf widths sh n .reads)
+    open-fits : (n : Node) → Fine sh count n → Fit T n → isEmpty (shapeOf widths sh n .reads) ≡ false → (D : Domain) (out : List Node)
+        → Held D (shapeOf widths sh n .reads)
         → Every (Fit T) out → Fits (openUnder at n D out)
     unfolding openUnder
     open-fits (scan t) f h o D out d e = absurd (true≢false o)
@@ -84,7 +91,8 @@ module _ (T : ℕ) where
     open-fits (join k cs l r) f h o D out d e =
         let s : Held D (sh l .reads ++ sh r .reads) = every-back (each conjunctReads cs) _ d in
         join-fits k cs (at l) (at r) D D out (sane l (f .0)) (sane r (f .1)) (h .1) (every-front (sh l .reads) _ s) (every-back (sh l .reads) _ s) e
-    open-fits (group [] gs i) f h o D out d e = one-fits _ (sane i f .puts D out d e) (rw length-map (omega (arith, h .0)), match-stored (λ q. q) (λ q. D .width + q) (upto (D .width)))
+    open-fits (group [] gs i) f h o D out d e =
+        one-fits _ (sane i f .puts D out d e) (rw length-map (omega (arith, h .0)), match-stored (λ q. q) (λ q. D .width + q) (upto (D .width)))
     open-fits (group (k ∷ ks) gs i) f h o D out d e = one-fits _ (sane i f .puts D out d e) (omega (arith, first-some D (k ∷ ks) (omega arith)), done)
     open-fits (groupjoin cs gs l r) f h o D out d e =
         let s : Held D (sh l .reads ++ sh r .reads) = every-back (each conjunctReads cs) _ d in
@@ -98,11 +106,13 @@ module _ (T : ℕ) where
         let dl = every-front (sh l .reads) _ s in
         let dr = every-back (sh l .reads) _ s in
         choice-fits (readsLeft (sh r)) _ _
-        (λ q. unnest-fits k cs (at l) (at r) D (at l .put D out) (sane l (f .0) .wide) (sane r (f .1)) (h .1) (any-some _ (sh r .reads) q) (f .2) dr (sane l (f .0) .puts D out dl e))
+        (λ q. unnest-fits k cs (at l) (at r) D (at l .put D out) (sane l (f .0) .wide) (sane r (f .1)) (h .1) (any-some _ (sh r .reads) q) (f .2) dr
+        (sane l (f .0) .puts D out dl e))
         (λ q. join-fits k cs (at l) (at r) D (inside D) out (sane l (f .0)) (sane r (f .1)) (h .1) dl (inside-held D (sh r .reads) q dr) e)
 
     -- a closed node
-    closed-fits : (n : Node) → Fine sh count n → Fit T n → isEmpty (shapeOf widths sh n .reads) ≡ true → (out : List Node) → Every (Fit T) out → Fits (closedNode at n out)
+    closed-fits : (n : Node) → Fine sh count n → Fit T n → isEmpty (shapeOf widths sh n .reads) ≡ true → (out : List Node) → Every (Fit T) out
+        → Fits (closedNode at n out)
     unfolding closedNode
     closed-fits (scan t) f h c out e = one-fits _ e h
     closed-fits (select cs i) f h c out e = one-fits _ e h
@@ -114,7 +124,8 @@ module _ (T : ℕ) where
     closed-fits (dependent k cs l r) f h c out e =
         choice-fits (closed (sh r)) _ _
         (λ q. one-fits _ e h)
-        (λ q. unnest-fits k cs (at l) (at r) outside _ (sane l (f .0) .wide) (sane r (f .1)) (h .1) q (f .2) (closed-every (past (sh r .reads)) (closed-back (sh l .reads) _ (closed-back (each conjunctReads cs) _ c))) e)
+        (λ q. unnest-fits k cs (at l) (at r) outside _ (sane l (f .0) .wide) (sane r (f .1)) (h .1) q (f .2)
+        (closed-every (past (sh r .reads)) (closed-back (sh l .reads) _ (closed-back (each conjunctReads cs) _ c))) e)
 
 -- ---- all nodes
 
@@ -152,7 +163,8 @@ module _ (widths : List ℕ) (some : Every (λ w. (1 ≤ w) × (w ≤ 64)) width
       x : Placed
       x = closedNode at n (s .out)
 
-      go : (b : Bool) → isEmpty (sh .reads) ≡ b → Kept (cond b (addPiece s sh x (closedPut (x .at))) (addPiece s sh (record { out = s .out; at = 0 }) (openUnder at n)))
+      go : (b : Bool) → isEmpty (sh .reads) ≡ b
+          → Kept (cond b (addPiece s sh x (closedPut (x .at))) (addPiece s sh (record { out = s .out; at = 0 }) (openUnder at n)))
       go true e = record {
         pieces = every-append (k .pieces) (more (record { wide = wide; puts = λ D out d t. one-fits T _ t (tt, done) }) done);
         out = closed-fits T widths at (length ns) sane n fine h e (s .out) (k .out);

@@ -182,7 +182,8 @@ bit-one p q false e = go (ltb p q) refl
         let h = ltb-false p q t in
         let n = eqb-false p q e in
         let f : suc (p - suc q) + q ≡ p = omega arith in
-        let g : 2 ^ p / 2 ^ q ≡ 2 ^ suc (p - suc q) = ap (λ (m : ℕ). 2 ^ m / 2 ^ q) (sym f) ∙ rw (pow-add 2 (suc (p - suc q)) q) (shl-shr (2 ^ suc (p - suc q)) q) in
+        let g : 2 ^ p / 2 ^ q ≡ 2 ^ suc (p - suc q) =
+        ap (λ (m : ℕ). 2 ^ m / 2 ^ q) (sym f) ∙ rw (pow-add 2 (suc (p - suc q)) q) (shl-shr (2 ^ suc (p - suc q)) q) in
         rw g (omega arith)
 
 -- a position is in a union where it is in either

@@ -31,7 +31,9 @@ module _ (widths : List ℕ) where
       → Shaped (ns ++ (n ∷ [])) (record { out = out; pieces = s .pieces ++ (p ∷ []) })
   shaped-snoc ns s n out p v e = record {
     count = simp length-append (omega (arith, v .count));
-    shapes = map-append _ (s .pieces) (p ∷ []) ∙ rw (v .shapes, e, entries-snoc shapeless (shapeOf widths) ns n) (ap (λ (q : ℕ → Shape). listFrom shapeless (shapeOf widths) [] ns ++ (shapeOf widths q n ∷ [])) (sym (shapes-are ns s v)));
+    shapes =
+        map-append _ (s .pieces) (p ∷ []) ∙ rw (v .shapes, e, entries-snoc shapeless (shapeOf widths) ns n)
+        (ap (λ (q : ℕ → Shape). listFrom shapeless (shapeOf widths) [] ns ++ (shapeOf widths q n ∷ [])) (sym (shapes-are ns s v)));
   }
 
   -- one more node
@@ -48,6 +50,7 @@ module _ (widths : List ℕ) where
       x : Placed
       x = closedNode at n (s .out)
 
-      go : (b : Bool) → Shaped (ns ++ (n ∷ [])) (cond b (addPiece s sh x (closedPut (x .at))) (addPiece s sh (record { out = s .out; at = 0 }) (openUnder at n)))
+      go : (b : Bool)
+          → Shaped (ns ++ (n ∷ [])) (cond b (addPiece s sh x (closedPut (x .at))) (addPiece s sh (record { out = s .out; at = 0 }) (openUnder at n)))
       go true = shaped-snoc ns s n (x .out) _ v refl
       go false = shaped-snoc ns s n (s .out) _ v refl

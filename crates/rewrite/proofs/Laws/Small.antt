@@ -11,7 +11,8 @@ use Rattle.algebra.specs.Lists.{all, Every, done, more}
 use Rattle.algebra.specs.Columns.{Shape}
 use Rattle.algebra.proofs.Lists.Every.{every-map, every-both, every-cond, every-unmapped, every-at}
 use Rattle.plan.specs.Words.{Three, Item, nodes, left}
-use Rattle.plan.specs.Items.{isConjunct, termOf, conjunctOf, computationOf, positionOf, aggregateOf, termRight, isLocal, isUnused, conjunctRight, computationRight, aggregateRight}
+use Rattle.plan.specs.Items.{isConjunct, termOf, conjunctOf, computationOf, positionOf, aggregateOf}
+use Rattle.plan.specs.Items.{termRight, isLocal, isUnused, conjunctRight, computationRight, aggregateRight}
 use Rattle.plan.specs.Plan.{widthsOf, nodesOf}
 use Rattle.plan.specs.Verdict.{termThere, conjunctThere, computationThere, aggregateThere, widthAt, isOpen, userOf, isRightSide, scope, scopeOf}
 use Rattle.plan.specs.Promise.{Accepted}
@@ -38,7 +39,8 @@ module _ (ws : List ℕ) (h : Accepted ws) where
   around-narrow zero m = done
   around-narrow (suc fuel) m =
       let t = around-narrow fuel (userOf ws m) in
-      every-cond (isOpen ws m && ltb (userOf ws m) (nodes ws)) (every-cond (isRightSide ws (userOf ws m) m) (more (row-narrow (left ws (userOf ws m))) t) t) done
+      every-cond (isOpen ws m && ltb (userOf ws m) (nodes ws))
+      (every-cond (isRightSide ws (userOf ws m) m) (more (row-narrow (left ws (userOf ws m))) t) t) done
 
   pub outer-narrow : (m l : ℕ) → getD (scopeOf ws m) l 0 ≤ 64
   outer-narrow m l = every-at 0 (omega arith) (around-narrow (nodes ws) m) l
@@ -70,7 +72,8 @@ module _ (around : List ℕ) (w : ℕ) (deep : (l : ℕ) → getD around l 0 ≤
 
   pub conjuncts-movable : (xs : List Item) → Every (λ x. conjunctRight x ≡ true) xs → all (conjunctThere around w) (map conjunctOf xs) ≡ true → Every Movable xs
   conjuncts-movable xs t e =
-      every-map (λ x f. conjunct-movable x (f .0) (f .1)) (every-both t (every-unmapped conjunctOf xs (every-all (conjunctThere around w) (map conjunctOf xs) e)))
+      every-map (λ x f. conjunct-movable x (f .0) (f .1))
+      (every-both t (every-unmapped conjunctOf xs (every-all (conjunctThere around w) (map conjunctOf xs) e)))
 
   pub computation-movable : (x : Item) → computationRight x ≡ true → computationThere around w (computationOf x) ≡ true → Movable x
   unfolding computationOf computationThere
@@ -86,7 +89,9 @@ module _ (around : List ℕ) (w : ℕ) (deep : (l : ℕ) → getD around l 0 ≤
       b = x .second
 
       Moves : ℕ → Type 0
-      Moves tag = (termRight a && cond (eqb tag 8) (isUnused b) (termRight b)) ≡ true → computationThere around w (computationOf (item tag a b)) ≡ true → Movable (item tag a b)
+      Moves tag =
+          (termRight a && cond (eqb tag 8) (isUnused b) (termRight b)) ≡ true → computationThere around w (computationOf (item tag a b)) ≡ true
+          → Movable (item tag a b)
 
       copied : Moves 8
       copied f g = record { first = (both _ _ f .0, small-term a g); second = λ q. absurd (q refl) }
@@ -102,7 +107,8 @@ module _ (around : List ℕ) (w : ℕ) (deep : (l : ℕ) → getD around l 0 ≤
   aggregate-small x e =
       let f = both _ _ e in
       let t = between-says 13 16 (x .tag) (f .0) in
-      in-range Stands 13 4 (more counted (more (λ g. there) (more (λ g. there) (more (λ g. there) done)))) (x .tag) (t .0) (omega arith) (both (cond (eqb (x .tag) 13) (isUnused (x .first)) (isLocal (x .first))) _ (f .1) .0)
+      in-range Stands 13 4 (more counted (more (λ g. there) (more (λ g. there) (more (λ g. there) done)))) (x .tag) (t .0) (omega arith)
+      (both (cond (eqb (x .tag) 13) (isUnused (x .first)) (isLocal (x .first))) _ (f .1) .0)
     where
       a : Three
       a = x .first
@@ -117,8 +123,10 @@ module _ (around : List ℕ) (w : ℕ) (deep : (l : ℕ) → getD around l 0 ≤
       there g = omega (arith, ltb-true (a .value) w g)
 
   pub positions-small : (xs : List Item) → all (λ p. ltb p w) (map positionOf xs) ≡ true → Every (λ x. positionOf x < 1000) xs
-  positions-small xs e = every-map (λ x f. omega (arith, ltb-true (positionOf x) w f)) (every-unmapped positionOf xs (every-all (λ p. ltb p w) (map positionOf xs) e))
+  positions-small xs e =
+      every-map (λ x f. omega (arith, ltb-true (positionOf x) w f)) (every-unmapped positionOf xs (every-all (λ p. ltb p w) (map positionOf xs) e))
 
-  pub aggregates-small : (xs : List Item) → Every (λ x. aggregateRight x ≡ true) xs → all (aggregateThere w) (map aggregateOf xs) ≡ true → Every (λ x. positionOf x < 1000) xs
+  pub aggregates-small : (xs : List Item) → Every (λ x. aggregateRight x ≡ true) xs → all (aggregateThere w) (map aggregateOf xs) ≡ true
+      → Every (λ x. positionOf x < 1000) xs
   aggregates-small xs t e =
       every-map (λ x f. aggregate-small x (f .0) (f .1)) (every-both t (every-unmapped aggregateOf xs (every-all (aggregateThere w) (map aggregateOf xs) e)))

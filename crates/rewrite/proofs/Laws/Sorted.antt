@@ -14,7 +14,8 @@ use Rattle.algebra.proofs.Lists.Every.{every-map, every-append, every-unmapped}
 use Rattle.algebra.proofs.Lists.Keep.{keep-append, keep-all, keep-none}
 use Rattle.algebra.proofs.Domains.Keys.{upto-all}
 use Rattle.plan.specs.Words.{Item, nodes, operator, left, right, kind, firstItem, itemCount, itemWord, itemAt, itemsFrom}
-use Rattle.plan.specs.Items.{isConjunct, isKey, isAggregate, conjunctsIn, keysIn, positionOf, conjunctRight, computationRight, keyRight, outputRight, aggregateRight}
+use Rattle.plan.specs.Items.{isConjunct, isKey, isAggregate, conjunctsIn, keysIn}
+use Rattle.plan.specs.Items.{positionOf, conjunctRight, computationRight, keyRight, outputRight, aggregateRight}
 use Rattle.plan.specs.Plan.{computationIn, nodeFor, nodeAt, kindOf}
 use Rattle.plan.specs.Verdict.{inFront, itemsRight, hasRight, conjunctThere, computationThere, columnsThere, widthAt, scopeOf, columnsRight}
 use Rattle.plan.specs.Promise.{Accepted}
@@ -46,15 +47,19 @@ module _ (ws : List ℕ) (a : ℕ) where
     pub front-kept : keep s (itemsFrom ws a count) ≡ itemsFrom ws a m
     pub behind-kept : keep isAggregate (itemsFrom ws a count) ≡ itemsFrom ws (a + m) (count - m)
 
-  part : (count : ℕ) (p s : Item → Bool) → ((x : Item) → p x ≡ true → s x ≡ true) → ((x : Item) → aggregateRight x ≡ true → s x ≡ false) → ((x : Item) → p x ≡ true → isAggregate x ≡ false)
-      → inFront p aggregateRight (length (keep s (itemsFrom ws a count))) (itemsFrom ws a count) ≡ true → Parted count p s (length (keep s (itemsFrom ws a count)))
+  part : (count : ℕ) (p s : Item → Bool) → ((x : Item) → p x ≡ true → s x ≡ true) → ((x : Item) → aggregateRight x ≡ true → s x ≡ false)
+      → ((x : Item) → p x ≡ true → isAggregate x ≡ false)
+      → inFront p aggregateRight (length (keep s (itemsFrom ws a count))) (itemsFrom ws a count) ≡ true
+      → Parted count p s (length (keep s (itemsFrom ws a count)))
   part count p s f g h e = record {
     few = few;
     front = front;
     behind = behind;
     whole = whole;
     front-kept = ap (keep s) whole ∙ keep-append s ys zs ∙ rw (keep-all s (every-map f front), keep-none s (every-map g behind)) (append-nil ys);
-    behind-kept = ap (keep isAggregate) whole ∙ keep-append isAggregate ys zs ∙ rw (keep-none isAggregate (every-map h front), keep-all isAggregate (every-map (λ x q. both _ _ q .0) behind));
+    behind-kept =
+        ap (keep isAggregate) whole ∙ keep-append isAggregate ys zs
+        ∙ rw (keep-none isAggregate (every-map h front), keep-all isAggregate (every-map (λ x q. both _ _ q .0) behind));
   }
     where
       m : ℕ
@@ -90,8 +95,8 @@ pub record Read (ws : List ℕ) (n a count : ℕ) : Type 0 where
   pub first : a ≡ firstItem ws n
   pub number : count ≡ itemCount ws n
 
-pub read-node : (ws : List ℕ) (n : ℕ) {a count : ℕ} → Accepted ws → n < nodes ws → a ≡ firstItem ws n → count ≡ itemCount ws n → Read ws n a count
-read-node ws n h l e f = record { accepted = h; there = l; first = e; number = f }
+pub read-node : {ws : List ℕ} {n a count : ℕ} → Accepted ws → n < nodes ws → a ≡ firstItem ws n → count ≡ itemCount ws n → Read ws n a count
+read-node h l e f = record { accepted = h; there = l; first = e; number = f }
 
 -- a node with one input is no groupjoin, one with two no project and no group
 pub one-input : {o : ℕ} → hasRight o ≡ false → o ≡ 7 → ⊥
@@ -110,13 +115,13 @@ two-inputs q = ap hasRight q
 pub no-groupjoin : {o : ℕ} → o ≡ 8 → o ≡ 7 → ⊥
 no-groupjoin q e = omega arith
 
-module _ (ws : List ℕ) (n a count : ℕ) (read : Read ws n a count) where
+module _ {ws : List ℕ} {n a count : ℕ} (read : Read ws n a count) where
   -- the node over operator o
   abbrev nodeOver : ℕ → Node
   nodeOver o = nodeFor o (left ws n) (right ws n) (kindOf (kind ws n)) (itemsFrom ws a count)
 
   pub within : a + count ≤ 2000
-  within = items-within ws (read .accepted) n (read .there) (read .first) (read .number)
+  within = items-within (read .accepted) (read .there) (read .first) (read .number)
 
   module _ (o : ℕ) (e : operator ws n ≡ o) where
     pub node-is : nodeAt ws n ≡ nodeOver o
@@ -142,10 +147,13 @@ module _ (ws : List ℕ) (n a count : ℕ) (read : Read ws n a count) where
   -- keys, then aggregates
   pub group-parted : operator ws n ≡ 6 → Parted ws a count keyRight isKey (length (keep isKey (itemsFrom ws a count)))
   unfolding itemsRight
-  group-parted e = part ws a count keyRight isKey (λ x g. both _ _ g .0) aggregate-not-key key-not-aggregate (both (not (isEmpty (itemsFrom ws a count))) _ (sorts 6 e) .1)
+  group-parted e =
+      part ws a count keyRight isKey (λ x g. both _ _ g .0) aggregate-not-key key-not-aggregate
+      (both (not (isEmpty (itemsFrom ws a count))) _ (sorts 6 e) .1)
 
   -- conjuncts, then aggregates
-  groupjoin-part : itemsRight 7 (itemsFrom ws a count) ≡ true → Parted ws a count conjunctRight isConjunct (length (keep isConjunct (itemsFrom ws a count)))
+  groupjoin-part : itemsRight 7 (itemsFrom ws a count) ≡ true
+      → Parted ws a count conjunctRight isConjunct (length (keep isConjunct (itemsFrom ws a count)))
   unfolding itemsRight
   groupjoin-part e =
       part ws a count conjunctRight isConjunct (λ x g. both (isConjunct x) _ g .0) aggregate-not-conjunct conjunct-not-aggregate
@@ -162,7 +170,9 @@ module _ (ws : List ℕ) (n a count : ℕ) (read : Read ws n a count) where
 
   pub outputs-small : operator ws n ≡ 4 → (i : ℕ) → i < count → itemWord ws (a + i) 3 < 1000
   unfolding columnsThere nodeFor
-  outputs-small e = at-each ws a count (positions-small (scopeOf ws n) (widthAt ws (left ws n)) deep (one (left ws n)) (itemsFrom ws a count) (columns 4 e))
+  outputs-small e =
+      at-each ws a count
+      (positions-small (scopeOf ws n) (widthAt ws (left ws n)) deep (one (left ws n)) (itemsFrom ws a count) (columns 4 e))
 
   pub group-small : operator ws n ≡ 6 → (i : ℕ) → i < count → itemWord ws (a + i) 3 < 1000
   unfolding columnsThere nodeFor
@@ -172,16 +182,20 @@ module _ (ws : List ℕ) (n a count : ℕ) (read : Read ws n a count) where
       let m = length (keep isKey (itemsFrom ws a count)) in
       let w = widthAt ws (left ws n) in
       let front = positions-small (scopeOf ws n) w deep (one (left ws n)) (itemsFrom ws a m) (rw (p .front-kept) at (c .0)) in
-      let behind = aggregates-small (scopeOf ws n) w deep (one (left ws n)) (itemsFrom ws (a + m) (count - m)) (p .behind) (rw (p .behind-kept) at (c .1)) in
+      let rest = itemsFrom ws (a + m) (count - m) in
+      let behind = aggregates-small (scopeOf ws n) w deep (one (left ws n)) rest (p .behind) (rw (p .behind-kept) at (c .1)) in
       at-each ws a {P = λ x. positionOf x < 1000} count (rw (p .whole) (every-append front behind))
 
-  pub groupjoin-small : operator ws n ≡ 7 → (m : ℕ) → m ≡ length (keep isConjunct (itemsFrom ws a count)) → (i : ℕ) → i < count - m → itemWord ws (a + m + i) 3 < 1000
+  pub groupjoin-small : operator ws n ≡ 7 → {m : ℕ} → m ≡ length (keep isConjunct (itemsFrom ws a count))
+      → (i : ℕ) → i < count - m → itemWord ws (a + m + i) 3 < 1000
   unfolding columnsThere nodeFor
-  groupjoin-small e m q =
+  groupjoin-small e {m} q =
       let p : Parted ws a count conjunctRight isConjunct m = rw q (groupjoin-parted e) in
       let w = widthAt ws (right ws n) in
       let c = both (all (conjunctThere (scopeOf ws n) (widthAt ws (left ws n) + w)) (conjunctsIn (itemsFrom ws a count))) _ (columns 7 e) in
-      at-each ws (a + m) (count - m) (aggregates-small (scopeOf ws n) w deep (one (right ws n)) (itemsFrom ws (a + m) (count - m)) (p .behind) (rw (p .behind-kept) at (c .1)))
+      at-each ws (a + m) (count - m)
+      (aggregates-small (scopeOf ws n) w deep (one (right ws n)) (itemsFrom ws (a + m) (count - m)) (p .behind)
+      (rw (p .behind-kept) at (c .1)))
 
   -- ---- terms that can be moved
 
@@ -191,10 +205,12 @@ module _ (ws : List ℕ) (n a count : ℕ) (read : Read ws n a count) where
       itemsRight o (itemsFrom ws a count) ≡ true → columnsThere (widthAt ws) (scopeOf ws n) (nodeOver o) ≡ true → (o ≡ 4 → ⊥) → (o ≡ 6 → ⊥)
       → Every Movable (itemsFrom ws a (cond (eqb o 7) (length (keep isConjunct (itemsFrom ws a count))) count))
 
-  conjuncts-move : (w : ℕ) → w ≤ 128 → all conjunctRight (itemsFrom ws a count) ≡ true → all (conjunctThere (scopeOf ws n) w) (conjunctsIn (itemsFrom ws a count)) ≡ true → Every Movable (itemsFrom ws a count)
+  conjuncts-move : (w : ℕ) → w ≤ 128 → all conjunctRight (itemsFrom ws a count) ≡ true
+      → all (conjunctThere (scopeOf ws n) w) (conjunctsIn (itemsFrom ws a count)) ≡ true → Every Movable (itemsFrom ws a count)
   conjuncts-move w h e f =
       let t = every-all conjunctRight (itemsFrom ws a count) e in
-      conjuncts-movable (scopeOf ws n) w deep h (itemsFrom ws a count) t (rw (keep-all isConjunct (every-map (λ x g. both (isConjunct x) _ g .0) t)) at f)
+      conjuncts-movable (scopeOf ws n) w deep h (itemsFrom ws a count) t
+      (rw (keep-all isConjunct (every-map (λ x g. both (isConjunct x) _ g .0) t)) at f)
 
   moves : (o : ℕ) → 1 ≤ o → o ≤ 8 → Moves o
   unfolding itemsRight columnsThere nodeFor Moves
@@ -220,16 +236,20 @@ module _ (ws : List ℕ) (n a count : ℕ) (read : Read ws n a count) where
       none [] e = done
       none (y ∷ ys) e = absurd (true≢false (sym e))
 
-      single : (ys : List Item) → (eqb (length ys) 1 && all computationRight ys) ≡ true → computationThere (scopeOf ws n) (widthAt ws (left ws n)) (computationIn ys) ≡ true → Every Movable ys
+      single : (ys : List Item) → (eqb (length ys) 1 && all computationRight ys) ≡ true
+          → computationThere (scopeOf ws n) (widthAt ws (left ws n)) (computationIn ys) ≡ true → Every Movable ys
       single [] e f = done
       single (y ∷ []) e f = more (computation-movable (scopeOf ws n) (widthAt ws (left ws n)) deep (one (left ws n)) y (both _ _ e .0) f) done
       single (y ∷ z ∷ ys) e f = absurd (omega (arith, eqb-true (suc (suc (length ys))) 1 (both _ _ e .0)))
 
-  pub movable : (operator ws n ≡ 4 → ⊥) → (operator ws n ≡ 6 → ⊥) → (m : ℕ) → m ≡ conjunctCount ws n → (i : ℕ) → i < m → Movable (itemAt ws (a + i))
+  pub movable : (operator ws n ≡ 4 → ⊥) → (operator ws n ≡ 6 → ⊥) → {m : ℕ} → m ≡ conjunctCount ws n
+      → (i : ℕ) → i < m → Movable (itemAt ws (a + i))
   unfolding Moves
-  movable f g m e =
+  movable f g {m} e =
       let v = facts-at ws (read .accepted .formed) n (read .there) in
-      at-each ws a {P = Movable} m (rw (e, ← (read .first), ← (read .number)) (moves (operator ws n) (v .low) (v .high) (sorts (operator ws n) refl) (columns (operator ws n) refl) f g))
+      at-each ws a {P = Movable} m
+      (rw (e, ← (read .first), ← (read .number))
+      (moves (operator ws n) (v .low) (v .high) (sorts (operator ws n) refl) (columns (operator ws n) refl) f g))
 
   -- where there are only conjuncts
   pub all-conjuncts : (operator ws n ≡ 7 → ⊥) → count ≡ conjunctCount ws n
@@ -246,8 +266,8 @@ module _ (ws : List ℕ) (n a count : ℕ) (read : Read ws n a count) where
       go false = omega arith
 
   -- the conjuncts, and what stands behind them, are within the limits
-  pub fronts : (m : ℕ) → m ≡ conjunctCount ws n → (m ≤ count) × (a + m ≤ 2000) × (a + m + (count - m) ≤ 2000)
-  fronts m e =
+  pub fronts : {m : ℕ} → m ≡ conjunctCount ws n → (m ≤ count) × (a + m ≤ 2000) × (a + m + (count - m) ≤ 2000)
+  fronts {m} e =
       let f = conjuncts-few m e in
       let g = within in
       (f, omega arith, omega arith)

@@ -21,7 +21,8 @@ use Rattle.rewrite.specs.Pages.{Stands}
 use Rattle.rewrite.specs.Under.{Ready, Within, put}
 use Rattle.rewrite.proofs.Laws.ColumnsWritten.{Grows, Sits, Wrote, grows-none, sits-closed, stands-before}
 use Rattle.rewrite.proofs.Laws.ColumnsUnder.{open-node}
-use Rattle.rewrite.proofs.Laws.Fuel.{Extends, extends-none, extends-one, extends-then, own, put-behind, put-closed, put-open}
+use Rattle.rewrite.proofs.Laws.Behind.{Extends, extends-none, extends-one, extends-then}
+use Rattle.rewrite.proofs.Laws.Fuel.{own, put-behind, put-closed, put-open}
 use Rattle.rewrite.proofs.Laws.Inputs.{node-fine}
 
 -- ---- nodes behind change nothing
@@ -36,7 +37,10 @@ module _ (ws : List ℕ) (a : Accepted ws) (images : ℕ → ℕ) (bound : ℕ) 
   sits : (fuel i : ℕ) → i < fuel → i < bound → Sits (widthsOf ws) out (own ws images i)
   unfolding columnsRight
   sits zero i l b = absurd (omega arith)
-  sits (suc fuel) i l b = record { copied = λ e. (copies i b e); puts = λ D more ext sd held. go (closed shape) refl D more ext sd held (λ j g. sits fuel j (omega arith) (omega arith)) }
+  sits (suc fuel) i l b = record {
+    copied = λ e. (copies i b e);
+    puts = λ D more ext sd held. go (closed shape) refl D more ext sd held (λ j g. sits fuel j (omega arith) (omega arith));
+  }
     where
       shape : Shape
       shape = shapeAt (widthsOf ws) (nodesOf ws) i
@@ -47,12 +51,15 @@ module _ (ws : List ℕ) (a : Accepted ws) (images : ℕ → ℕ) (bound : ℕ) 
       is : shape ≡ shapeOf (widthsOf ws) (shapeAt (widthsOf ws) (nodesOf ws)) (nodeAt ws i)
       is = shape-of ws (a .formed) i here
 
-      go : (b : Bool) → closed shape ≡ b → (D : Domain) (more : List Node) → Grows (widthsOf ws) out more → Stands (widthsOf ws) more (D .node) (D .width) → Within D (readsAt ws i)
+      go : (b : Bool) → closed shape ≡ b → (D : Domain) (more : List Node) → Grows (widthsOf ws) out more → Stands (widthsOf ws) more (D .node) (D .width)
+          → Within D (readsAt ws i)
           → ((j : ℕ) → j < i → Sits (widthsOf ws) out (own ws images j)) → Wrote (widthsOf ws) more (put ws images (suc i) i D more) (D .width + widthAt ws i)
-      go true e D more ext sd held before = rw (put-closed ws (a .formed) images i here D more e) (sits-closed (widthsOf ws) out shape (images i) (copies i b e) .puts D more ext sd held)
+      go true e D more ext sd held before =
+          rw (put-closed ws (a .formed) images i here D more e) (sits-closed (widthsOf ws) out shape (images i) (copies i b e) .puts D more ext sd held)
       go false e D more ext sd held before =
           rw (put-open ws (a .formed) images i here D more e, ap (λ (s : Shape). s .width) is)
-          (open-node (widthsOf ws) out (own ws images) i before D more ext sd (scopeOf ws i) (nodeAt ws i) (node-fine ws a i here) (rw is at e) (a .columns i here) (rw (ap (λ (s : Shape). s .reads) is) at held))
+          (open-node (widthsOf ws) out (own ws images) i before D more ext sd (scopeOf ws i) (nodeAt ws i) (node-fine ws a i here) (rw is at e)
+          (a .columns i here) (rw (ap (λ (s : Shape). s .reads) is) at held))
 
 -- ---- what the inputs ask
 
@@ -86,5 +93,6 @@ module _ (ws : List ℕ) (a : Accepted ws) (images : ℕ → ℕ) {n : ℕ} (h :
         ready-behind r k (extends-then (put-behind ws images (suc l) l D out) (extends-one (x .out) (group ks [] (x .at))))
         (record {
           inside = rw length-append (omega arith);
-          width = ap (λ (s : Shape). s .width) (entry-last shapeless (shapeOf (widthsOf ws)) (x .out) (group ks [] (x .at))) ∙ add-zero (length ks) ∙ ap length e;
+          width =
+              ap (λ (s : Shape). s .width) (entry-last shapeless (shapeOf (widthsOf ws)) (x .out) (group ks [] (x .at))) ∙ add-zero (length ks) ∙ ap length e;
         })

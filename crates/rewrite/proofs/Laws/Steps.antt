@@ -20,10 +20,11 @@ use Rattle.rewrite.specs.Answer.{newPlan}
 use Rattle.rewrite.specs.Pages.{Page, Finished}
 use Rattle.rewrite.specs.Closing.{Closes, closing}
 use Rattle.rewrite.proofs.Laws.Pages.{over-more, page-zero}
-use Rattle.rewrite.proofs.Laws.Fuel.{AtEnd, Extends}
+use Rattle.rewrite.proofs.Laws.Behind.{AtEnd, Extends}
 use Rattle.rewrite.proofs.Laws.Put.{last-is}
 use Rattle.rewrite.proofs.Laws.Closed.{closing-behind, closing-end}
-use Rattle.rewrite.proofs.Laws.Pieces.{step-closed, step-open, after, shape, after-suc, next-shape, piece-before, piece-next, imageOf, Placing, next-closed, copies-stand}
+use Rattle.rewrite.proofs.Laws.Pieces.{step-closed, step-open, after, shape, after-suc, next-shape}
+use Rattle.rewrite.proofs.Laws.Pieces.{piece-before, piece-next, imageOf, Placing, next-closed, copies-stand}
 
 -- the images as the code keeps them
 abbrev copies : List ℕ → ℕ → ℕ
@@ -37,10 +38,15 @@ pub record Stepped (ws nodes items rows images : List ℕ) (c : Cursor) (k : ℕ
 
 pub stepped-none : (ws nodes items : List ℕ) → Stepped ws nodes items (replicate 256 0) (replicate 256 0) (record { nodes = 0; items = 0; ok = true }) 0
 unfolding steps
-stepped-none ws nodes items = record { page = page-zero (widthsOf ws) nodes items 256; placed = λ t i h. absurd (omega arith); size = length-replicate {A = ℕ} 256 0 }
+stepped-none ws nodes items = record {
+  page = page-zero (widthsOf ws) nodes items 256;
+  placed = λ t i h. absurd (omega arith);
+  size = length-replicate {A = ℕ} 256 0;
+}
 
 -- one more copy in place
-placing-next : (ws : List ℕ) (images : ℕ → ℕ) (k : ℕ) → Placing ws images k → (closed (shape ws k) ≡ true → images k ≡ pieceAt (after ws (suc k)) k .image) → Placing ws images (suc k)
+placing-next : (ws : List ℕ) (images : ℕ → ℕ) (k : ℕ) → Placing ws images k → (closed (shape ws k) ≡ true → images k ≡ pieceAt (after ws (suc k)) k .image)
+    → Placing ws images (suc k)
 placing-next ws images k before last i g = go (ltb i k) refl
   where
     go : (b : Bool) → ltb i k ≡ b → closed (shape ws i) ≡ true → images i ≡ pieceAt (after ws (suc k)) i .image
@@ -53,7 +59,8 @@ module _ (ws : List ℕ) (a : Accepted ws) (k : ℕ) (h : k < nodes ws) where
   written = closedNode (pieceAt (after ws k)) (nodeAt ws k) (after ws k .out)
 
   -- an open node is not written
-  open-step : {nodes items rows images : List ℕ} {c : Cursor} → closed (shape ws k) ≡ false → Stepped ws nodes items rows images c k → Stepped ws nodes items rows images c (k + 1)
+  open-step : {nodes items rows images : List ℕ} {c : Cursor} → closed (shape ws k) ≡ false → Stepped ws nodes items rows images c k
+      → Stepped ws nodes items rows images c (k + 1)
   open-step {images} e s =
       rw add-one
       (record {
@@ -65,7 +72,8 @@ module _ (ws : List ℕ) (a : Accepted ws) (k : ℕ) (h : k < nodes ws) where
       same : after ws (suc k) .out ≡ after ws k .out
       same = ap (λ (x : State). x .out) (after-suc ws k) ∙ step-open (widthsOf ws) (after ws k) (nodeAt ws k) (ap closed (next-shape ws k h) ∙ e)
 
-  pub stepped-open : {nodes nodes₀ items items₀ rows rows₀ images images₀ : List ℕ} {c c₀ : Cursor} → closed (shape ws k) ≡ false → Stepped ws nodes₀ items₀ rows₀ images₀ c₀ k
+  pub stepped-open : {nodes nodes₀ items items₀ rows rows₀ images images₀ : List ℕ} {c c₀ : Cursor} → closed (shape ws k) ≡ false
+      → Stepped ws nodes₀ items₀ rows₀ images₀ c₀ k
       → nodes ≡ nodes₀ → items ≡ items₀ → rows ≡ rows₀ → images ≡ images₀ → c ≡ c₀ → Stepped ws nodes items rows images c (k + 1)
   stepped-open e s en ei er em ec = rw (en, ei, er, em, ec) (open-step e s)
 
@@ -90,7 +98,8 @@ module _ (ws : List ℕ) (a : Accepted ws) (k : ℕ) (h : k < nodes ws) where
     written-end = rw written-is (closing-end ws (imageOf ws k) k (after ws k .out))
 
     closed-step : {nodes nodes′ items items′ rows rows′ images images′ : List ℕ} {c d : Cursor} (x : ℕ) → Stepped ws nodes items rows images c k
-        → Closes ws images k nodes nodes′ items items′ rows rows′ c d → x ≡ pred (d .nodes) → images′ ≡ set images k x → k < 256 → Stepped ws nodes′ items′ rows′ images′ d (k + 1)
+        → Closes ws images k nodes nodes′ items items′ rows rows′ c d → x ≡ pred (d .nodes) → images′ ≡ set images k x → k < 256
+        → Stepped ws nodes′ items′ rows′ images′ d (k + 1)
     closed-step {nodes} {nodes′} {items} {items′} {rows} {rows′} {images} {images′} {c} {d} x s wrote last stored few =
         rw (add-one, stored)
         (record {
@@ -114,12 +123,14 @@ module _ (ws : List ℕ) (a : Accepted ws) (k : ℕ) (h : k < nodes ws) where
         there e false q t = absurd (true≢false (sym t ∙ wrote .stays q))
 
     -- the code's variables behind the branch are nodes, items, rows, images and c
-    pub stepped-closed : {nodes nodes₀ nodes₁ items items₀ items₁ rows rows₀ rows₁ images images₀ : List ℕ} {c c₀ c₁ : Cursor} (i x : ℕ) → Stepped ws nodes₀ items₀ rows₀ images₀ c₀ k
+    pub stepped-closed : {nodes nodes₀ nodes₁ items items₀ items₁ rows rows₀ rows₁ images images₀ : List ℕ} {c c₀ c₁ : Cursor} (i x : ℕ)
+        → Stepped ws nodes₀ items₀ rows₀ images₀ c₀ k
         → Closes ws images₀ k nodes₀ nodes₁ items₀ items₁ rows₀ rows₁ c₀ c₁ → x ≡ pred (c₁ .nodes) → i ≡ k → k < 256
         → nodes ≡ nodes₁ → items ≡ items₁ → rows ≡ rows₁ → images ≡ set images₀ i x → c ≡ c₁ → Stepped ws nodes items rows images c (k + 1)
     stepped-closed i x s wrote last e few en ei er em ec = rw (en, ei, er, em, ec) (closed-step x s wrote last (rw e) few)
 
 -- all nodes
-pub stepped-all : {ws nodes items rows images : List ℕ} {c : Cursor} (k n : ℕ) → Stepped ws nodes items rows images c k → n ≡ words.nodes ws → k ≤ n → n ≤ k → Finished (widthsOf ws) (newPlan ws) nodes items c
+pub stepped-all : {ws nodes items rows images : List ℕ} {c : Cursor} (k n : ℕ) → Stepped ws nodes items rows images c k → n ≡ words.nodes ws → k ≤ n
+    → n ≤ k → Finished (widthsOf ws) (newPlan ws) nodes items c
 unfolding rewritten
 stepped-all {ws} {rows} k n s e g h = let q : k ≡ words.nodes ws = omega arith in (rows, rw q at (s .page))

@@ -54,7 +54,11 @@ module _ (widths : List ℕ) where
       → closed (shapeOf widths (shapeAt widths ns) n) ≡ true → Kept (ns ++ (n ∷ [])) (step widths s n)
   unfolding step
   kept-step ns s n v q f p c =
-      rw (subst (λ (t : ℕ → Shape). closed (shapeOf widths t n) ≡ true) (shapes-are widths ns s v) c, copied-same at n (s .out) p (every-map image (fine-below _ _ n f)))
+      rw (
+        subst (λ (t : ℕ → Shape). closed (shapeOf widths t n) ≡ true) (shapes-are widths ns s v) c,
+        copied-same at n (s .out) p
+            (every-map image (fine-below _ _ n f)),
+      )
       (record {
         out = ap (λ (l : List Node). l ++ (n ∷ [])) (q .out);
         images = map-append _ (s .pieces) _ ∙ rw (q .images, length-append ns (n ∷ []), add-one, q .out);
@@ -67,12 +71,14 @@ module _ (widths : List ℕ) where
       image i h = sym (List·getD-map (λ p. p .image) (s .pieces) i missing) ∙ ap (λ (l : List ℕ). getD l i 0) (q .images) ∙ upto-at (length ns) i 0 h
 
   -- all nodes, one after the other
-  kept-steps : (ns ms : List Node) (s : State) → Shaped widths ns s → Kept ns s → FineFrom widths ns ms → Every Plain ms → ((i : ℕ) → closed (shapeAt widths (ns ++ ms) i) ≡ true)
+  kept-steps : (ns ms : List Node) (s : State) → Shaped widths ns s → Kept ns s → FineFrom widths ns ms → Every Plain ms
+      → ((i : ℕ) → closed (shapeAt widths (ns ++ ms) i) ≡ true)
       → steps widths s ms .out ≡ ns ++ ms
   unfolding steps
   kept-steps ns [] s v q f p c = rw append-nil (q .out)
   kept-steps ns (m ∷ ms) s v q f p c =
-      kept-steps (ns ++ (m ∷ [])) ms (step widths s m) (shaped-step widths ns s m v) (kept-step ns s m v q (f .0) (every-head p) here) (f .1) (every-tail p) (rw (append-assoc ns (m ∷ []) ms) c)
+      kept-steps (ns ++ (m ∷ [])) ms (step widths s m) (shaped-step widths ns s m v) (kept-step ns s m v q (f .0) (every-head p) here) (f .1)
+      (every-tail p) (rw (append-assoc ns (m ∷ []) ms) c)
       ∙ append-assoc ns (m ∷ []) ms
     where
       here : closed (shapeOf widths (shapeAt widths ns) m) ≡ true
@@ -131,7 +137,8 @@ module _ (ws : List ℕ) (a : Accepted ws) (plain : Every Plain (nodesOf ws)) wh
       ordered-all (nodeAt ws 0) (nodesOf ws)
       (λ i l.
       let h : i < nodes ws = rw (nodes-length ws) at l in
-      rw (mapped-at (nodeAt ws) (nodes ws) i 0 h) (tidy-node (widthAt ws) i (nodeAt ws i) (plain-at i h) (inputs-below ws (a .formed) i h) (rw (no-scope (nodes ws) i) at (a .columns i h))))
+      rw (mapped-at (nodeAt ws) (nodes ws) i 0 h)
+      (tidy-node (widthAt ws) i (nodeAt ws i) (plain-at i h) (inputs-below ws (a .formed) i h) (rw (no-scope (nodes ws) i) at (a .columns i h))))
 
   -- and the plan is its own rewriting
   pub plan-unchanged : rewritten (widthsOf ws) (nodesOf ws) ≡ nodesOf ws

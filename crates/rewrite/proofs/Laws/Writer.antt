@@ -31,34 +31,39 @@ added-same new other e f widths nodes rows out xs page = rw e at (f widths nodes
 
 module _ {items₀ : List ℕ} {c₀ : Cursor} (f : ℕ → List ℕ) where
   -- one item more
-  pub step : {items items′ : List ℕ} {c c′ : Cursor} (i : ℕ) (w : List ℕ) → w ≡ f i → Added items₀ items c₀ c (map f (upto i)) → Added items items′ c c′ (w ∷ [])
+  pub step : {items items′ : List ℕ} {c c′ : Cursor} (i : ℕ) (w : List ℕ) → w ≡ f i → Added items₀ items c₀ c (map f (upto i))
+      → Added items items′ c c′ (w ∷ [])
       → Added items₀ items′ c₀ c′ (map f (upto (i + 1)))
   step i w e before last =
       added-same (map f (upto i) ++ (w ∷ [])) (map f (upto (i + 1))) (rw (add-one i, map-append f (upto i) (i ∷ []), e))
-      (added-then _ _ _ _ _ _ (map f (upto i)) (w ∷ []) before last)
+      (added-then (map f (upto i)) (w ∷ []) before last)
 
   -- all items written
   pub ended : {items : List ℕ} {c : Cursor} (i n : ℕ) (new : List (List ℕ)) → map f (upto n) ≡ new → Added items₀ items c₀ c (map f (upto i)) → i ≤ n → n ≤ i
       → Added items₀ items c₀ c new
   ended i n new e before g h = let q : i ≡ n = omega arith in added-same (map f (upto i)) new (rw q e) before
 
-  pub ended-kept : (p : ℕ → Bool) {items : List ℕ} {c : Cursor} (i n : ℕ) (new : List (List ℕ)) → map f (keep p (upto n)) ≡ new → Added items₀ items c₀ c (map f (keep p (upto i)))
+  pub ended-kept : (p : ℕ → Bool) {items : List ℕ} {c : Cursor} (i n : ℕ) (new : List (List ℕ)) → map f (keep p (upto n)) ≡ new
+      → Added items₀ items c₀ c (map f (keep p (upto i)))
       → i ≤ n → n ≤ i → Added items₀ items c₀ c new
   ended-kept p i n new e before g h = let q : i ≡ n = omega arith in added-same (map f (keep p (upto i))) new (rw q e) before
 
   -- the numbers that pass a test only; the code's variables behind the branch are items and c
-  module _ (p : ℕ → Bool) {items before : List ℕ} {c d : Cursor} (i : ℕ) (t : Bool) (told : t ≡ p i) (rest : Added items₀ before c₀ d (map f (keep p (upto i)))) where
-    pub step-kept : {last : List ℕ} {e : Cursor} (w : List ℕ) → t ≡ true → w ≡ f i → items ≡ last → c ≡ e → Added before last d e (w ∷ []) → Added items₀ items c₀ c (map f (keep p (upto (i + 1))))
+  module _ (p : ℕ → Bool) {items before : List ℕ} {c d : Cursor} (i : ℕ) (t : Bool) (told : t ≡ p i)
+      (rest : Added items₀ before c₀ d (map f (keep p (upto i)))) where
+    pub step-kept : {last : List ℕ} {e : Cursor} (w : List ℕ) → t ≡ true → w ≡ f i → items ≡ last → c ≡ e → Added before last d e (w ∷ [])
+        → Added items₀ items c₀ c (map f (keep p (upto (i + 1))))
     step-kept w is same q r more =
         rw (q, r)
         (added-same (map f (keep p (upto i)) ++ (w ∷ [])) (map f (keep p (upto (i + 1))))
         (rw (add-one i, keep-append p (upto i) (i ∷ []), ← told, is, map-append f (keep p (upto i)) (i ∷ []), same))
-        (added-then _ _ _ _ _ _ (map f (keep p (upto i))) (w ∷ []) rest more))
+        (added-then (map f (keep p (upto i))) (w ∷ []) rest more))
 
     pub step-left : t ≡ false → items ≡ before → c ≡ d → Added items₀ items c₀ c (map f (keep p (upto (i + 1))))
     step-left is q r =
         rw (q, r)
-        (added-same (map f (keep p (upto i))) (map f (keep p (upto (i + 1)))) (rw (add-one i, keep-append p (upto i) (i ∷ []), ← told, is, append-nil (keep p (upto i)))) rest)
+        (added-same (map f (keep p (upto i))) (map f (keep p (upto (i + 1))))
+        (rw (add-one i, keep-append p (upto i) (i ∷ []), ← told, is, append-nil (keep p (upto i)))) rest)
 
 -- ---- items of two local columns
 
@@ -85,7 +90,8 @@ match-words : (g h : ℕ → ℕ) (ks : List ℕ) → map (λ q. locals 7 (g q) 
 match-words g h [] = refl
 match-words g h (k ∷ ks) = rw (match-words g h ks)
 
-match-same : (n : ℕ) (g h : ℕ → ℕ) (ks : List ℕ) → ((k : ℕ) → g k ≡ h k) → map (λ q. locals 7 q (n + g q)) ks ≡ map conjunctWords (match (λ q. q) (λ q. n + h q) ks)
+match-same : (n : ℕ) (g h : ℕ → ℕ) (ks : List ℕ) → ((k : ℕ) → g k ≡ h k)
+    → map (λ q. locals 7 q (n + g q)) ks ≡ map conjunctWords (match (λ q. q) (λ q. n + h q) ks)
 match-same n g h ks e =
     map-cong _ _ (every-of {P = λ q. locals 7 q (n + g q) ≡ locals 7 q (n + h q)} (λ q. rw (e q)) ks) ∙ match-words (λ q. q) (λ q. n + h q) ks
 
@@ -134,10 +140,12 @@ module _ {items₀ items : List ℕ} {c₀ c : Cursor} where
       → Added items₀ items c₀ c (map (shiftedWords d) (itemsFrom ws a n))
   shifted-end ws a d i n = ended (λ k. shiftedWords d (itemAt ws (a + k))) i n _ (sym (map-map (shiftedWords d) (λ k. itemAt ws (a + k)) (upto n)))
 
-  pub keys-end : (set q : ℕ) → Added items₀ items c₀ c (map (λ k. locals 11 k 0) (keep (inSet set) (upto q))) → q ≤ 64 → 64 ≤ q → Added items₀ items c₀ c (map (positionWords 11) (members set))
+  pub keys-end : (set q : ℕ) → Added items₀ items c₀ c (map (λ k. locals 11 k 0) (keep (inSet set) (upto q))) → q ≤ 64 → 64 ≤ q
+      → Added items₀ items c₀ c (map (positionWords 11) (members set))
   keys-end set q = ended-kept (λ k. locals 11 k 0) (inSet set) q 64 _ refl
 
-  pub set-matches-end : (set n q : ℕ) → set < 2 ^ 64 → Added items₀ items c₀ c (map (λ k. locals 7 k (n + rank set k)) (keep (inSet set) (upto q))) → q ≤ 64 → 64 ≤ q
+  pub set-matches-end : (set n q : ℕ) → set < 2 ^ 64 → Added items₀ items c₀ c (map (λ k. locals 7 k (n + rank set k)) (keep (inSet set) (upto q)))
+      → q ≤ 64 → 64 ≤ q
       → Added items₀ items c₀ c (map conjunctWords (match (λ k. k) (λ k. n + below (members set) k) (members set)))
   set-matches-end set n q f =
       ended-kept (λ k. locals 7 k (n + rank set k)) (inSet set) q 64 _

@@ -24,7 +24,9 @@ returns : tie.Need-returns
 returns c = search needs
 
 returns-2 : tie.Need-returns-2
-returns-2 c = refused-first _ (c .before .before .before .before .before .before .args .out .now) (c .before .v .given .0 .0) (ap answerOf (sym (c .before .v .given .1)) ∙ c .before .before .before .check .ensures)
+returns-2 c =
+    refused-first _ (c .before .before .before .before .before .before .args .out .now) (c .before .v .given .0 .0)
+    (ap answerOf (sym (c .before .v .given .1)) ∙ c .before .before .before .check .ensures)
 
 pub rewrite-spec : {M : Type 1} → statement M
 rewrite-spec =

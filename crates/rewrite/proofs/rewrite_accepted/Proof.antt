@@ -37,7 +37,8 @@ returns-2 c =
     let i = c .before .before in
     let r = i .before .before in
     let a = r .before .before .before .before .before .before .before .before .before .before .before .before in
-    refused-room (a .args .words .now) _ _ (r .rewrite-nodes .result) (a .pre) (r .rewrite-nodes .ensures) (not-false _ (i .if1 .left)) _ (c .before .total-words .ensures) (a .args .out .now) (c .if2 .taken)
+    refused-room (a .args .words .now) _ _ (r .rewrite-nodes .result) (a .pre) (r .rewrite-nodes .ensures) (not-false _ (i .if1 .left)) _
+    (c .before .total-words .ensures) (a .args .out .now) (c .if2 .taken)
 
 write-table-requires : tie.Need-write-table-requires
 write-table-requires c κs =
@@ -63,7 +64,9 @@ returns-3 c =
     let t = c .before .before .before .before .before .before .before in
     let r = t .before .before .before in
     let a = r .before .before .before .before .before .before .before .before .before .before .before .before in
-    written (a .args .words .now) _ _ (r .rewrite-nodes .result) (a .pre) (r .rewrite-nodes .ensures) (not-false _ (t .before .if1 .left)) _ (t .total-words .ensures) (a .args .out .now) _ (c .before .before .before .before .before .before .if2 .left) (c .before .before .write-table .ensures)
+    written (a .args .words .now) _ _ (r .rewrite-nodes .result) (a .pre) (r .rewrite-nodes .ensures) (not-false _ (t .before .if1 .left)) _
+    (t .total-words .ensures) (a .args .out .now) _
+    (c .before .before .before .before .before .before .if2 .left) (c .before .before .write-table .ensures)
 
 pub rewrite-accepted-spec : {M : Type 1} → statement M
 rewrite-accepted-spec =

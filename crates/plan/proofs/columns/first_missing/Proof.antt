@@ -27,8 +27,10 @@ columns-right-requires c κs = search needs
 
 returns : tie.Need-returns Inv-loop μ-loop
 returns c =
-    let l = c .before .before .before .loop in
-    wrong-found (columnsRight _) (l .n) (c .before .columns-right .ensures) (l .inv .1) (c .if1 .taken) (c .before .before .before .before .nodes .ensures) (c .before .before .loop-test .taken)
+    let t = c .before .before in
+    let l = t .before in
+    wrong-found (columnsRight _) (l .loop .n) (c .before .columns-right .ensures) (l .loop .inv .1) (c .if1 .taken) (l .before .nodes .ensures)
+    (t .loop-test .taken)
 
 add-n : tie.Need-add-n Inv-loop μ-loop
 add-n c = search needs

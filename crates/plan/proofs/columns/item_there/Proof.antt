@@ -1,11 +1,33 @@
+use mathlib.Core.Path.{_≡_}
+use mathlib.Core.Bool.{false}
+use mathlib.Core.List.{List}
 use mathlib.Core.Logic.{⊎-elim}
+use Prim.Native.Nat.{ℕ}
 use native.Mathlib.Omega.{arith}
-use Rattle.plan.specs.Words.{itemAt}
+use borrow.Author.Needs.{needs}
+use Rattle.plan.specs.Words.{Item, itemAt}
+use Rattle.plan.specs.Items.{between}
 use Rattle.plan.specs.Verdict.{scopeOf}
 use Rattle.plan.proofs.Laws.Columns.{item-count, item-position, item-copy, item-missing, item-both, outside-low, outside-high}
-use borrow.Author.Needs.{needs}
 use Rattle.plan.proofs.columns.item_there.Statement.{statement}
 use Rattle.plan.proofs.columns.item_there.Tie as tie
+
+-- ---- the item and the columns it may name
+
+abbrev start : tie.After-tag → tie.Start
+start c = c .before .before
+
+abbrev scope : tie.After-tag → List ℕ
+scope c = scopeOf (start c .args .words .now) (start c .args .n)
+
+abbrev item : tie.After-tag → Item
+item c = itemAt (start c .args .words .now) (start c .args .j)
+
+-- an item of two terms names no position
+outside : (c : tie.Joined1) → between 11 16 (c .before .before .tag .result) ≡ false
+outside c = ⊎-elim (λ t. outside-low _ (t .taken)) (λ t. outside-high _ (t .1 .left)) (c .if1 .came)
+
+-- ---- the needs
 
 tag-requires : tie.Need-tag-requires
 tag-requires c κs = search needs
@@ -27,8 +49,11 @@ term-there-requires-2 c κs = search needs
 
 returns : tie.Need-returns
 returns c =
-    let a = c .before .before .before .before .before .before .before .args in
-    item-missing (scopeOf (a .words .now) (a .n)) (a .w) (a .v) (itemAt (a .words .now) (a .j)) _ (c .before .before .before .before .before .tag .ensures) _ (c .before .before .first-term2 .ensures) _ (c .before .term-there2 .ensures) (⊎-elim (λ t. outside-low _ (t .taken)) (λ t. outside-high _ (t .1 .left)) (c .before .before .before .if1 .came)) (c .if3 .taken)
+    let f = c .before .before in
+    let t = f .before .before .before in
+    let a = start t .args in
+    item-missing (scope t) (a .w) (a .v) (item t) (t .tag .ensures) (f .first-term2 .ensures) (c .before .term-there2 .ensures)
+    (outside (f .before)) (c .if3 .taken)
 
 second-term-requires : tie.Need-second-term-requires
 second-term-requires c κs = search needs
@@ -38,23 +63,32 @@ term-there-requires-3 c κs = search needs
 
 returns-2 : tie.Need-returns-2
 returns-2 c =
-    let a = c .before .before .before .args in
-    item-count (scopeOf (a .words .now) (a .n)) (a .w) (a .v) (itemAt (a .words .now) (a .j)) _ (c .before .tag .ensures) (c .match .keys1)
+    let t = c .before in
+    let a = start t .args in
+    item-count (scope t) (a .w) (a .v) (item t) (t .tag .ensures) (c .match .keys1)
 
 returns-3 : tie.Need-returns-3
 returns-3 c =
-    let a = c .before .before .before .before .before .args in
-    item-copy (scopeOf (a .words .now) (a .n)) (a .w) (a .v) (itemAt (a .words .now) (a .j)) _ (c .before .before .before .tag .ensures) _ (c .before .first-term .ensures) _ (c .term-there .ensures) (c .before .before .match .keys2)
+    let m = c .before .before in
+    let t = m .before in
+    let a = start t .args in
+    item-copy (scope t) (a .w) (a .v) (item t) (t .tag .ensures) (c .before .first-term .ensures) (c .term-there .ensures) (m .match .keys2)
 
 returns-4 : tie.Need-returns-4
 returns-4 c =
-    let a = c .before .before .before .before .before .before .args in
-    item-position (scopeOf (a .words .now) (a .n)) (a .w) (a .v) (itemAt (a .words .now) (a .j)) _ (c .before .before .before .before .tag .ensures) _ (c .before .before .if1 .left) (c .before .if2 .taken) (omega arith) (c .position .ensures)
+    let l = c .before .before in
+    let t = l .before .before in
+    let a = start t .args in
+    item-position (scope t) (a .w) (a .v) (item t) (t .tag .ensures) (l .if1 .left) (c .before .if2 .taken) (omega arith) (c .position .ensures)
 
 returns-5 : tie.Need-returns-5
 returns-5 c =
-    let a = c .before .before .before .before .before .before .before .before .before .args in
-    item-both (scopeOf (a .words .now) (a .n)) (a .w) (a .v) (itemAt (a .words .now) (a .j)) _ (c .before .before .before .before .before .before .before .tag .ensures) _ (c .before .before .before .before .first-term2 .ensures) _ (c .before .before .before .term-there2 .ensures) (⊎-elim (λ t. outside-low _ (t .taken)) (λ t. outside-high _ (t .1 .left)) (c .before .before .before .before .before .if1 .came)) (omega arith) (c .before .before .if3 .left) _ _ (c .before .second-term .ensures) (c .term-there3 .ensures)
+    let h = c .before .before in
+    let f = h .before .before in
+    let t = f .before .before .before in
+    let a = start t .args in
+    item-both (scope t) (a .w) (a .v) (item t) (t .tag .ensures) (f .first-term2 .ensures) (h .before .term-there2 .ensures)
+    (outside (f .before)) (omega arith) (h .if3 .left) (c .before .second-term .ensures) (c .term-there3 .ensures)
 
 pub item-there-spec : {M : Type 1} → statement M
 item-there-spec =

@@ -1,10 +1,10 @@
 use mathlib.Core.Path.{_≡_}
-use mathlib.Core.Bool.{true}
+use mathlib.Core.Bool.{Bool, true}
 use Prim.Native.Nat.{_≤_, _-_}
 use native.Mathlib.Omega.{arith}
 use borrow.Author.Needs.{needs}
 use Rattle.algebra.specs.Lists.{all}
-use Rattle.plan.specs.Words.{itemsFrom}
+use Rattle.plan.specs.Words.{Item, itemsFrom}
 use Rattle.plan.specs.Verdict.{scopeOf}
 use Rattle.plan.specs.Passes.{itemThere}
 use Rattle.plan.proofs.Laws.Items.{items-more, items-fail, items-end, items-read}
@@ -18,6 +18,22 @@ Inv-loop words n w v rows joins a count i₀ i = (i ≤ count) × (all (itemTher
 abbrev μ-loop : tie.MeasureT-loop
 μ-loop words n w v rows joins a count i₀ i = count - i
 
+-- ---- what is known in a turn
+
+abbrev Turn : Type 0
+Turn = tie.At-loop Inv-loop μ-loop
+
+abbrev start : Turn → tie.Start Inv-loop μ-loop
+start c = c .before .before .before .before
+
+-- an item's columns are there
+abbrev there : Turn → Item → Bool
+there c =
+    let a = start c .args in
+    itemThere (scopeOf (a .words .now) (a .n)) (a .w) (a .v)
+
+-- ---- the needs
+
 first-item-requires : tie.Need-first-item-requires Inv-loop μ-loop
 first-item-requires c κs = search needs
 
@@ -29,18 +45,21 @@ loop-holds c = search needs
 
 add-item-there : tie.Need-add-item-there Inv-loop μ-loop
 add-item-there c =
-    let p = c .before .before .before .before .before in
-    omega (arith, item-place _ (p .pre .0) _ _ _ _ (p .pre .1) (c .before .before .before .first-item .ensures) (c .before .before .item-count .ensures) (c .loop-test .taken))
+    let l = c .before in
+    let s = start l in
+    let k = l .before in
+    omega (arith, item-place _ (s .pre .0) _ _ _ _ (s .pre .1) (k .before .first-item .ensures) (k .item-count .ensures) (c .loop-test .taken))
 
 item-there-requires : tie.Need-item-there-requires Inv-loop μ-loop
 item-there-requires c κs = search needs
 
 returns : tie.Need-returns Inv-loop μ-loop
 returns c =
-    let s = c .before .before .before .before .before .before .before .args in
-    let p = itemThere (scopeOf (s .words .now) (s .n)) (s .w) (s .v) in
-    items-read p _ _ (c .before .before .before .before .before .first-item .ensures) (c .before .before .before .before .item-count .ensures)
-    (items-fail p _ _ _ _ _ (c .before .item-there .ensures) (c .if1 .taken) (c .before .before .loop-test .taken))
+    let t = c .before .before in
+    let l = t .before in
+    let k = l .before in
+    items-read (there l) _ _ (k .before .first-item .ensures) (k .item-count .ensures)
+    (items-fail (there l) _ _ _ _ _ (c .before .item-there .ensures) (c .if1 .taken) (t .loop-test .taken))
 
 add-i : tie.Need-add-i Inv-loop μ-loop
 add-i c = search needs
@@ -50,17 +69,15 @@ loop-less c = search needs
 
 loop-again : tie.Need-loop-again Inv-loop μ-loop
 loop-again c =
-    let l = c .before .before .before .loop in
-    let s = c .before .before .before .before .before .before .before .args in
-    (search needs, items-more (itemThere (scopeOf (s .words .now) (s .n)) (s .w) (s .v)) _ _ (l .i) (l .inv .1) _ (c .before .item-there .ensures) (c .if1 .left))
+    let l = c .before .before .before in
+    (search needs, items-more (there l) _ _ (l .loop .i) (l .loop .inv .1) _ (c .before .item-there .ensures) (c .if1 .left))
 
 returns-2 : tie.Need-returns-2 Inv-loop μ-loop
 returns-2 c =
-    let l = c .before .loop in
-    let s = c .before .before .before .before .before .args in
-    let p = itemThere (scopeOf (s .words .now) (s .n)) (s .w) (s .v) in
-    items-read p _ _ (c .before .before .before .first-item .ensures) (c .before .before .item-count .ensures)
-    (items-end p _ _ (l .i) _ (l .inv .1) (c .loop-test .left) (l .inv .0))
+    let l = c .before in
+    let k = l .before in
+    items-read (there l) _ _ (k .before .first-item .ensures) (k .item-count .ensures)
+    (items-end (there l) _ _ (l .loop .i) _ (l .loop .inv .1) (c .loop-test .left) (l .loop .inv .0))
 
 pub items-there-spec : {M : Type 1} → statement M
 items-there-spec =

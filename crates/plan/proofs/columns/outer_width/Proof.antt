@@ -11,6 +11,20 @@ Inv-loop words n level rows joins at₀ l₀ at l = Climbed words n level at l
 abbrev μ-loop : tie.MeasureT-loop
 μ-loop words n level rows joins at₀ l₀ at l = l
 
+-- ---- the places
+
+abbrev Turn : Type 0
+Turn = tie.At-loop Inv-loop μ-loop
+
+abbrev start : Turn → tie.Start Inv-loop μ-loop
+start c = c .before .before .before .before
+
+-- the join is found, and its left input read
+abbrev found : tie.After-wide3 Inv-loop μ-loop → tie.Else2 Inv-loop μ-loop
+found c = c .before .before
+
+-- ---- the needs
+
 wide-requires : tie.Need-wide-requires Inv-loop μ-loop
 wide-requires c κs = search needs
 
@@ -22,11 +36,11 @@ element-copy-out-at c = omega (arith, limited _ (c .before .before .pre .0 .size
 
 loop-holds : tie.Need-loop-holds Inv-loop μ-loop
 loop-holds c =
-    let p = c .before .before .before in
-    climb-start _ (p .args .joins .now) (p .pre .3) (p .pre .4) _ _ _ (p .pre .1) (c .before .wide .ensures)
+    let s = c .before .before .before in
+    climb-start _ (s .args .joins .now) (s .pre .3) (s .pre .4) _ _ (s .pre .1) (c .before .wide .ensures)
 
 returns : tie.Need-returns Inv-loop μ-loop
-returns c = climb-none _ _ _ _ _ (c .before .before .loop .inv) (c .if1 .taken)
+returns c = climb-none (c .before .before .loop .inv) (c .if1 .taken)
 
 wide-requires-2 : tie.Need-wide-requires-2 Inv-loop μ-loop
 wide-requires-2 c κs = search needs
@@ -45,11 +59,13 @@ loop-less c = search needs
 
 loop-again : tie.Need-loop-again Inv-loop μ-loop
 loop-again c =
-    let p = c .before .before .before .before .before .before .before .before in
-    climb-next _ (p .args .joins .now) (p .pre .3) (p .pre .4) _ _ _ _ _ (c .before .before .before .before .loop .inv) (c .before .before .if1 .left) (c .before .before .before .loop-test .taken) (c .before .wide2 .ensures)
+    let e = c .before .before in
+    let l = e .before .before in
+    let s = start l in
+    climb-next _ (s .args .joins .now) (s .pre .3) (s .pre .4) _ _ (l .loop .inv) (e .if1 .left) (e .before .loop-test .taken) (c .before .wide2 .ensures)
 
 returns-2 : tie.Need-returns-2 Inv-loop μ-loop
-returns-2 c = climb-none _ _ _ _ _ (c .before .before .loop .inv) (c .if2 .taken)
+returns-2 c = climb-none (c .before .before .loop .inv) (c .if2 .taken)
 
 left-requires : tie.Need-left-requires Inv-loop μ-loop
 left-requires c κs = search needs
@@ -61,12 +77,17 @@ mul-result : tie.Need-mul-result Inv-loop μ-loop
 mul-result c = search needs
 
 element-copy-out-result : tie.Need-element-copy-out-result Inv-loop μ-loop
-element-copy-out-result c = climb-inside _ _ _ _ _ (c .before .before .before .before .loop .inv) (c .before .before .before .before .before .before .before .before .pre .0) (c .before .before .if2 .left) _ _ (c .before .left .ensures) (c .wide3 .ensures)
+element-copy-out-result c =
+    let l = found c .before .before in
+    climb-inside (l .loop .inv) (start l .pre .0) (found c .if2 .left) (c .before .left .ensures) (c .wide3 .ensures)
 
 returns-3 : tie.Need-returns-3 Inv-loop μ-loop
 returns-3 c =
-    let p = c .before .before .before .before .before .before .before .before .before in
-    climb-end _ _ _ _ _ (c .before .before .before .before .before .loop .inv) (p .pre .0) (c .before .before .before .if2 .left) _ _ (c .before .before .left .ensures) (c .before .wide3 .ensures) (p .args .rows .now) (p .pre .2) (c .before .before .before .before .loop-test .left)
+    let w = c .before in
+    let e = found w .before in
+    let s = start (e .before) in
+    climb-end (e .before .loop .inv) (s .pre .0) (found w .if2 .left) (w .before .left .ensures) (w .wide3 .ensures) (s .args .rows .now) (s .pre .2)
+    (e .loop-test .left)
 
 pub outer-width-spec : {M : Type 1} → statement M
 outer-width-spec =

@@ -1,12 +1,15 @@
 use mathlib.Core.Path.{_≡_, sym, _∙_}
 use mathlib.Core.Logic.{⊎-elim}
+use mathlib.Core.Bool.{true}
 use mathlib.Core.List.{List}
 use Prim.Native.Nat.{ℕ, _≤_, _<_, _-_}
 use native.Mathlib.Omega.{arith}
 use borrow.Author.Needs.{needs}
 use Rattle.plan.specs.Words.{nodes}
+use Rattle.plan.specs.Verdict.{hasRight}
 use Rattle.plan.proofs.Laws.Formed.{limited, left-below, right-below}
-use Rattle.plan.proofs.Laws.Scope.{Entered, entered, leftEntered, left-none, left-done, enter-open, enter-closed, joins-start, joins-left, joins-both, joins-all, joins-end}
+use Rattle.plan.proofs.Laws.Scope.{Entered, entered, leftEntered, left-none, left-done, enter-open, enter-closed}
+use Rattle.plan.proofs.Laws.Scope.{joins-start, joins-left, joins-both, joins-all, joins-end}
 use Rattle.plan.proofs.columns.work_out_joins.Statement.{statement}
 use Rattle.plan.proofs.columns.work_out_joins.Tie as tie
 
@@ -16,42 +19,78 @@ Inv-loop words reaches joins₀ p₀ joins p = (p ≤ nodes words) × (p ≤ 256
 abbrev μ-loop : tie.MeasureT-loop
 μ-loop words reaches joins₀ p₀ joins p = p
 
--- the table once the left input is entered
-lefts : (c : tie.Joined1 Inv-loop μ-loop)
-    → c .if1 .joins ≡ leftEntered (c .before .before .before .before .before .before .args .words .now) (c .before .before .before .before .before .before .args .reaches .now) (c .before .before .before .loop .p - 1) (c .before .before .before .loop .joins)
-lefts c =
-    let a = c .before .before .before .before .before .before .args in
-    let l = c .before .before .before .loop in
-    let o = c .before .operator .ensures in
-    let done = left-done (a .words .now) (a .reaches .now) (l .joins) (l .p - 1) _ o (c .if1 .joins) in
-    ⊎-elim
-    (λ t. done _ (t .0 .taken) (t .1 .ensures) (t .8 ∙ enter-open _ _ _ _ _ _ (t .2 .ensures) _ _ (t .7 .ensures) (t .4 .taken) (t .6 .ensures)))
-    (⊎-elim
-    (λ t. done _ (t .0 .taken) (t .1 .ensures) (t .5 ∙ enter-closed _ _ _ _ _ _ (t .2 .ensures) (t .4 .left)))
-    (λ t. t .1 ∙ left-none _ _ _ _ _ o (t .0 .left)))
-    (c .if1 .came)
+-- ---- what is known in a turn
+
+abbrev Turn : Type 0
+Turn = tie.At-loop Inv-loop μ-loop
+
+abbrev start : Turn → tie.Start Inv-loop μ-loop
+start c = c .before .before .before
+
+abbrev words : Turn → List ℕ
+words c = start c .args .words .now
+
+abbrev reaches : Turn → List ℕ
+reaches c = start c .args .reaches .now
+
+-- the node of the turn
+abbrev node : Turn → ℕ
+node c = c .loop .p - 1
+
+abbrev turn : tie.After-operator Inv-loop μ-loop → Turn
+turn c = c .before .before
+
+-- the left input is entered, and there is a right one
+abbrev entered-left : tie.After-right Inv-loop μ-loop → tie.Joined1 Inv-loop μ-loop
+entered-left c = c .before .before .before
+
+two-inputs : (c : tie.After-right Inv-loop μ-loop) → hasRight (entered-left c .before .operator .result) ≡ true
+two-inputs c = sym (c .before .before .has-right .ensures) ∙ c .before .if3 .taken
 
 -- the inputs have places in the table
 left-inside : (c : tie.After-left Inv-loop μ-loop) (w : ℕ) → w ≡ c .left .result → w < 256
 left-inside c w e =
-    let l = c .before .before .before .before in
-    omega (arith, left-below _ (l .before .before .before .pre .0) (l .loop .p - 1) (omega arith) (c .before .before .operator .ensures) (c .before .if1 .taken) (c .left .ensures) e)
+    let o = c .before .before in
+    let l = turn o in
+    omega (
+      arith,
+      left-below _ (start l .pre .0) (node l) (omega arith) (o .operator .ensures) (c .before .if1 .taken) (c .left .ensures) e,
+    )
 
 right-inside : (c : tie.After-right Inv-loop μ-loop) (w : ℕ) → w ≡ c .right .result → w < 256
 right-inside c w e =
-    let o = c .before .before .before .before in
-    let l = o .before .before in
-    omega (arith, right-below _ (l .before .before .before .pre .0) (l .loop .p - 1) (omega arith) (o .operator .ensures) (sym (c .before .before .has-right .ensures) ∙ c .before .if3 .taken) (c .right .ensures) e)
+    let o = entered-left c .before in
+    let l = turn o in
+    omega (
+      arith,
+      right-below _ (start l .pre .0) (node l) (omega arith) (o .operator .ensures) (two-inputs c) (c .right .ensures) e,
+    )
 
--- the table once both are entered
+-- the table once the left input is entered
+lefts : (c : tie.Joined1 Inv-loop μ-loop)
+    → c .if1 .joins
+    ≡ leftEntered (words (turn (c .before))) (reaches (turn (c .before))) (node (turn (c .before))) (turn (c .before) .loop .joins)
+lefts c =
+    let o = c .before .operator .ensures in
+    ⊎-elim
+    (λ t. left-done _ _ _ _ o (t .0 .taken) (t .1 .ensures) (t .8 ∙ enter-open _ _ _ _ (t .2 .ensures) (t .7 .ensures) (t .4 .taken) (t .6 .ensures)))
+    (⊎-elim
+    (λ t. left-done _ _ _ _ o (t .0 .taken) (t .1 .ensures) (t .5 ∙ enter-closed _ _ _ _ (t .2 .ensures) (t .4 .left)))
+    (λ t. t .1 ∙ left-none _ _ _ _ o (t .0 .left)))
+    (c .if1 .came)
+
+-- and once the right one is
 rights : (c : tie.After-right Inv-loop μ-loop) (after : List ℕ)
-    → after ≡ entered (c .before .before .before .before .before .before .before .before .before .args .words .now) (c .before .before .before .before .before .before .before .before .before .args .reaches .now) (c .before .before .before .before .before .before .loop .p - 1) (c .right .result) (c .before .before .before .if1 .joins)
-    → Entered (c .before .before .before .before .before .before .before .before .before .args .words .now) (c .before .before .before .before .before .before .before .before .before .args .reaches .now) after (c .before .before .before .before .before .before .loop .p - 1)
+    → (let l = turn (entered-left c .before) in after ≡ entered (words l) (reaches l) (node l) (c .right .result) (entered-left c .if1 .joins))
+    → (let l = turn (entered-left c .before) in Entered (words l) (reaches l) after (node l))
 rights c after e =
-    let j = c .before .before .before in
-    let l = j .before .before .before in
-    joins-both _ _ _ (l .before .before .before .pre .0) _ (j .before .before .loop-test .taken) (l .loop .inv .0) (l .loop .inv .2) _ _ _ _ (j .before .operator .ensures)
-    (sym (c .before .before .has-right .ensures) ∙ c .before .if3 .taken) (c .right .ensures) (lefts j) e
+    let j = entered-left c in
+    let o = j .before in
+    let l = turn o in
+    joins-both (start l .pre .0) (o .before .loop-test .taken) (l .loop .inv .0) (l .loop .inv .2) (o .operator .ensures) (two-inputs c)
+    (c .right .ensures) (lefts j) e
+
+-- ---- the needs
 
 nodes-requires : tie.Need-nodes-requires Inv-loop μ-loop
 nodes-requires c κs = search needs
@@ -123,26 +162,39 @@ loop-less c = search needs
 
 loop-again : tie.Need-loop-again Inv-loop μ-loop
 loop-again c =
-    (omega arith, omega arith, rights (c .before .before .before .before .before .before) _ (enter-open _ _ _ _ _ _ (c .before .before .before .before .before .wide3 .ensures) _ _ (c .wide4 .ensures) (c .before .before .before .if4 .taken) (c .before .join-around2 .ensures)))
+    let t = c .before .before .before in
+    let w = t .before .before in (
+      omega arith,
+      omega arith,
+      rights (w .before) _ (enter-open _ _ _ _ (w .wide3 .ensures) (c .wide4 .ensures) (t .if4 .taken) (c .before .join-around2 .ensures)),
+    )
 
 loop-less-2 : tie.Need-loop-less-2 Inv-loop μ-loop
 loop-less-2 c = search needs
 
 loop-again-2 : tie.Need-loop-again-2 Inv-loop μ-loop
-loop-again-2 c = (omega arith, omega arith, rights (c .before .before .before) _ (enter-closed _ _ _ _ _ _ (c .before .before .wide3 .ensures) (c .if4 .left)))
+loop-again-2 c =
+    let w = c .before .before in
+    (omega arith, omega arith, rights (w .before) _ (enter-closed _ _ _ _ (w .wide3 .ensures) (c .if4 .left)))
 
 loop-less-3 : tie.Need-loop-less-3 Inv-loop μ-loop
 loop-less-3 c = search needs
 
 loop-again-3 : tie.Need-loop-again-3 Inv-loop μ-loop
 loop-again-3 c =
-    let l = c .before .before .before .before .before in
-    (omega arith, omega arith, joins-left _ _ _ (l .before .before .before .pre .0) _ (c .before .before .before .before .loop-test .taken) (l .loop .inv .0) (l .loop .inv .2) _ _ (c .before .before .before .operator .ensures) (sym (c .before .has-right .ensures) ∙ c .if3 .left) (lefts (c .before .before)))
+    let j = c .before .before in
+    let o = j .before in
+    let l = turn o in (
+      omega arith,
+      omega arith,
+      joins-left (start l .pre .0) (o .before .loop-test .taken) (l .loop .inv .0) (l .loop .inv .2) (o .operator .ensures)
+          (sym (c .before .has-right .ensures) ∙ c .if3 .left) (lefts j),
+    )
 
 returns : tie.Need-returns Inv-loop μ-loop
 returns c =
-    let f = c .before .before .before .before .pre in
-    joins-end _ _ _ (f .0) (f .1) (joins-all _ _ _ _ (c .loop-test .left) (c .before .loop .inv .2))
+    let p = start (c .before) .pre in
+    joins-end (p .0) (p .1) (joins-all (c .loop-test .left) (c .before .loop .inv .2))
 
 pub work-out-joins-spec : {M : Type 1} → statement M
 work-out-joins-spec =

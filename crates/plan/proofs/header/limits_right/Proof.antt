@@ -32,7 +32,9 @@ table-widths-right-requires : tie.Need-table-widths-right-requires
 table-widths-right-requires c κs = search needs
 
 returns-6 : tie.Need-returns-6
-returns-6 c = limits-last _ (omega arith) (omega arith) (omega arith) (omega arith) (omega arith) _ (c .before .before .before .before .before .before .before .before .tables .ensures) _ (c .table-widths-right .ensures)
+returns-6 c =
+    let t = c .before .before .before .before .before .before .before .before in
+    limits-last _ (omega arith) (omega arith) (omega arith) (omega arith) (omega arith) _ (t .tables .ensures) _ (c .table-widths-right .ensures)
 
 pub limits-right-spec : {M : Type 1} → statement M
 limits-right-spec =

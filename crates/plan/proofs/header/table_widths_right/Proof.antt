@@ -32,7 +32,9 @@ loop-less : tie.Need-loop-less Inv-loop μ-loop
 loop-less c = search needs
 
 loop-again : tie.Need-loop-again Inv-loop μ-loop
-loop-again c = (omega arith, widths-more _ _ _ (c .before .before .before .before .loop .inv .1) (c .before .before .table-width .ensures) (omega arith) (omega arith))
+loop-again c =
+    let w = c .before .before in
+    (omega arith, widths-more _ _ _ (w .before .before .loop .inv .1) (w .table-width .ensures) (omega arith) (omega arith))
 
 returns-3 : tie.Need-returns-3 Inv-loop μ-loop
 returns-3 c = widths-end _ _ _ (c .before .loop .inv .1) (c .loop-test .left) (c .before .loop .inv .0)

@@ -7,28 +7,43 @@ tag-requires : tie.Need-tag-requires
 tag-requires c κs = search needs
 
 returns : tie.Need-returns
-returns c = range-under _ _ (c .before .tag .ensures) 13 16 _ (c .if1 .taken)
+returns c = range-under (c .before .tag .ensures) 13 16 _ (c .if1 .taken)
 
 returns-2 : tie.Need-returns-2
-returns-2 c = range-over _ _ (c .before .before .tag .ensures) 13 16 _ (c .before .if1 .left) (c .if2 .taken)
+returns-2 c = range-over (c .before .before .tag .ensures) 13 16 _ (c .before .if1 .left) (c .if2 .taken)
 
 unused-term-requires : tie.Need-unused-term-requires
 unused-term-requires c κs = search needs
 
 returns-3 : tie.Need-returns-3
-returns-3 c = range-within _ _ (c .before .before .before .before .before .tag .ensures) 13 16 _ _ (c .before .before .before .before .if1 .left) (c .before .before .before .if2 .left) (and-fails _ _ _ (choose-first _ _ (c .before .before .before .before .before .tag .ensures) 13 _ _ _ (c .before .before .if3 .taken) (c .before .unused-term .ensures)) (c .if4 .taken))
+returns-3 c =
+    let k = c .before .before in
+    let l = k .before in
+    let t = l .before .before .tag .ensures in
+    range-within t 13 16 (l .before .if1 .left) (l .if2 .left)
+    (and-fails _ (choose-first t 13 _ (k .if3 .taken) (c .before .unused-term .ensures)) (c .if4 .taken))
 
 unused-term-requires-2 : tie.Need-unused-term-requires-2
 unused-term-requires-2 c κs = search needs
 
 returns-4 : tie.Need-returns-4
-returns-4 c = range-within _ _ (c .before .before .before .before .before .before .tag .ensures) 13 16 _ _ (c .before .before .before .before .before .if1 .left) (c .before .before .before .before .if2 .left) (and-passes _ _ _ (choose-first _ _ (c .before .before .before .before .before .before .tag .ensures) 13 _ _ _ (c .before .before .before .if3 .taken) (c .before .before .unused-term .ensures)) (c .before .if4 .left) (c .unused-term2 .ensures))
+returns-4 c =
+    let u = c .before .before in
+    let l = u .before .before in
+    let t = l .before .before .tag .ensures in
+    range-within t 13 16 (l .before .if1 .left) (l .if2 .left)
+    (and-passes _ (choose-first t 13 _ (u .before .if3 .taken) (u .unused-term .ensures)) (c .before .if4 .left)
+    (c .unused-term2 .ensures))
 
 column-right-requires : tie.Need-column-right-requires
 column-right-requires c κs = search needs
 
 returns-5 : tie.Need-returns-5
-returns-5 c = range-within _ _ (c .before .before .before .before .tag .ensures) 13 16 _ _ (c .before .before .before .if1 .left) (c .before .before .if2 .left) (choose-second-and _ _ (c .before .before .before .before .tag .ensures) 13 _ _ _ _ (c .before .if3 .left) (c .column-right .ensures))
+returns-5 c =
+    let l = c .before .before in
+    let t = l .before .before .tag .ensures in
+    range-within t 13 16 (l .before .if1 .left) (l .if2 .left)
+    (choose-second-and t 13 _ _ _ (c .before .if3 .left) (c .column-right .ensures))
 
 pub aggregate-right-spec : {M : Type 1} → statement M
 aggregate-right-spec =

@@ -26,7 +26,10 @@ item-right-requires : tie.Need-item-right-requires Inv-loop μ-loop
 item-right-requires c κs = search needs
 
 returns : tie.Need-returns Inv-loop μ-loop
-returns c = items-fail (rightOf (c .before .before .before .before .before .args .sort)) _ _ _ _ _ (c .before .item-right .ensures) (c .if1 .taken) (c .before .before .loop-test .taken)
+returns c =
+    let t = c .before .before in
+    let s = t .before .before .before in
+    items-fail (rightOf (s .args .sort)) _ _ _ _ _ (c .before .item-right .ensures) (c .if1 .taken) (t .loop-test .taken)
 
 add-i : tie.Need-add-i Inv-loop μ-loop
 add-i c = search needs
@@ -35,7 +38,10 @@ loop-less : tie.Need-loop-less Inv-loop μ-loop
 loop-less c = search needs
 
 loop-again : tie.Need-loop-again Inv-loop μ-loop
-loop-again c = (omega arith, items-more (rightOf (c .before .before .before .before .before .args .sort)) _ _ _ (c .before .before .before .loop .inv .1) _ (c .before .item-right .ensures) (c .if1 .left))
+loop-again c =
+    let l = c .before .before .before in
+    let s = l .before .before in
+    (omega arith, items-more (rightOf (s .args .sort)) _ _ _ (l .loop .inv .1) _ (c .before .item-right .ensures) (c .if1 .left))
 
 returns-2 : tie.Need-returns-2 Inv-loop μ-loop
 returns-2 c = items-end (rightOf (c .before .before .before .args .sort)) _ _ _ _ (c .before .loop .inv .1) (c .loop-test .left) (c .before .loop .inv .0)

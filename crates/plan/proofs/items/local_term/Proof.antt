@@ -10,7 +10,7 @@ item-word-requires : tie.Need-item-word-requires
 item-word-requires c κs = search needs
 
 returns : tie.Need-returns
-returns c = is-not _ _ (c .before .item-word .ensures) _ _ (c .if1 .taken)
+returns c = is-not (c .before .item-word .ensures) _ _ (c .if1 .taken)
 
 add-item-word : tie.Need-add-item-word
 add-item-word c = search needs
@@ -19,7 +19,7 @@ item-word-requires-2 : tie.Need-item-word-requires-2
 item-word-requires-2 c κs = search needs
 
 returns-2 : tie.Need-returns-2
-returns-2 c = is _ _ (c .before .before .item-word .ensures) _ _ _ (c .before .if1 .left) (ap (λ (n : ℕ). eqb n 0) (c .item-word2 .ensures))
+returns-2 c = is (c .before .before .item-word .ensures) _ (c .before .if1 .left) (ap (λ (n : ℕ). eqb n 0) (c .item-word2 .ensures))
 
 pub local-term-spec : {M : Type 1} → statement M
 local-term-spec =

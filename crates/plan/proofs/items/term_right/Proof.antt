@@ -13,19 +13,33 @@ item-word-requires-2 : tie.Need-item-word-requires-2
 item-word-requires-2 c κs = search needs
 
 returns : tie.Need-returns
-returns c = outer-right _ _ _ (c .before .before .item-word .ensures) (c .before .item-word2 .ensures) (c .if1 .taken)
+returns c =
+    let w = c .before in
+    outer-right _ (w .before .item-word .ensures) (w .item-word2 .ensures) (c .if1 .taken)
 
 returns-2 : tie.Need-returns-2
-returns-2 c = level-wrong _ _ _ (c .before .before .before .item-word .ensures) (c .before .before .item-word2 .ensures) (c .before .if1 .left) (c .if2 .taken)
+returns-2 c =
+    let w = c .before .before in
+    level-wrong _ (w .before .item-word .ensures) (w .item-word2 .ensures) (c .before .if1 .left) (c .if2 .taken)
 
 returns-3 : tie.Need-returns-3
-returns-3 c = column-right _ _ _ (c .before .before .before .before .item-word .ensures) (c .before .before .before .item-word2 .ensures) (c .before .if2 .left) (c .if3 .taken)
+returns-3 c =
+    let l = c .before in
+    let w = l .before .before in
+    column-right _ (w .before .item-word .ensures) (w .item-word2 .ensures) (l .if2 .left) (c .if3 .taken)
 
 returns-4 : tie.Need-returns-4
-returns-4 c = constant-right _ _ _ (c .before .before .before .before .before .item-word .ensures) (c .before .before .before .before .item-word2 .ensures) (c .before .before .if2 .left) (c .if4 .taken)
+returns-4 c =
+    let l = c .before .before in
+    let w = l .before .before in
+    constant-right _ (w .before .item-word .ensures) (w .item-word2 .ensures) (l .if2 .left) (c .if4 .taken)
 
 returns-5 : tie.Need-returns-5
-returns-5 c = code-wrong _ _ _ (c .before .before .before .before .before .before .item-word .ensures) (c .before .before .before .before .before .item-word2 .ensures) (c .before .before .before .before .if1 .left) (c .before .before .if3 .left) (c .before .if4 .left) (c .if5 .taken) (c .before .before .before .if2 .left)
+returns-5 c =
+    let l = c .before .before .before in
+    let w = l .before .before in
+    code-wrong _ (w .before .item-word .ensures) (w .item-word2 .ensures) (l .before .if1 .left) (c .before .before .if3 .left) (c .before .if4 .left)
+    (c .if5 .taken) (l .if2 .left)
 
 add-item-word-2 : tie.Need-add-item-word-2
 add-item-word-2 c = search needs
@@ -34,7 +48,10 @@ item-word-requires-3 : tie.Need-item-word-requires-3
 item-word-requires-3 c κs = search needs
 
 returns-6 : tie.Need-returns-6
-returns-6 c = null-right _ _ _ (c .before .before .before .before .before .before .before .item-word .ensures) (c .before .before .before .before .before .before .item-word2 .ensures) _ (c .before .before .before .before .if2 .left) (c .before .if5 .left) (c .item-word3 .ensures)
+returns-6 c =
+    let l = c .before .before .before .before in
+    let w = l .before .before in
+    null-right _ (w .before .item-word .ensures) (w .item-word2 .ensures) (l .if2 .left) (c .before .if5 .left) (c .item-word3 .ensures)
 
 pub term-right-spec : {M : Type 1} → statement M
 term-right-spec =

@@ -10,7 +10,7 @@ local-term-requires : tie.Need-local-term-requires
 local-term-requires c κs = search needs
 
 returns : tie.Need-returns
-returns c = and-fails _ _ _ (c .before .local-term .ensures) (c .if1 .taken)
+returns c = and-fails _ (c .before .local-term .ensures) (c .if1 .taken)
 
 add-item-word : tie.Need-add-item-word
 add-item-word c = search needs
@@ -19,7 +19,7 @@ item-word-requires : tie.Need-item-word-requires
 item-word-requires c κs = search needs
 
 returns-2 : tie.Need-returns-2
-returns-2 c = and-passes _ _ _ (c .before .before .local-term .ensures) (c .before .if1 .left) (ap (λ (n : ℕ). eqb n 0) (c .item-word .ensures))
+returns-2 c = and-passes _ (c .before .before .local-term .ensures) (c .before .if1 .left) (ap (λ (n : ℕ). eqb n 0) (c .item-word .ensures))
 
 pub unused-term-spec : {M : Type 1} → statement M
 unused-term-spec =

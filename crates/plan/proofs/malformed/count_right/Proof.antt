@@ -3,6 +3,10 @@ use borrow.Author.Needs.{needs}
 use Rattle.plan.proofs.malformed.count_right.Statement.{statement}
 use Rattle.plan.proofs.malformed.count_right.Tie as tie
 
+-- the place where the end of the items is known
+abbrev ended : tie.After-nodes → tie.After-wide2
+ended c = c .before .before .before
+
 first-item-requires : tie.Need-first-item-requires
 first-item-requires c κs = search needs
 
@@ -35,13 +39,23 @@ nodes-requires c κs = search needs
 
 returns-2 : tie.Need-returns-2
 returns-2 c =
-    let b = c .before .before .before .before .before .before .before in
-    root-count _ _ (b .before .first-item .ensures) (b .before .before .before .pre .0) (b .if1 .left) (c .before .nodes .ensures) (c .before .before .before .before .before .before .wide .ensures) (c .before .before .before .before .wide2 .ensures) (c .before .before .before .before .before .item-count .ensures) (c .before .before .wide3 .ensures) (c .before .before .before .items .ensures) (c .if2 .taken)
+    let n = c .before in
+    let k = ended n .before in
+    let w = k .before in
+    let f = w .before in
+    let s = f .before .before .before in
+    root-count _ _ (f .before .first-item .ensures) (s .pre .0) (f .if1 .left) (n .nodes .ensures) (w .wide .ensures) (ended n .wide2 .ensures)
+    (k .item-count .ensures) (n .before .wide3 .ensures) (n .before .before .items .ensures) (c .if2 .taken)
 
 returns-3 : tie.Need-returns-3
 returns-3 c =
-    let b = c .before .before .before .before .before .before .before in
-    node-count _ _ (b .before .first-item .ensures) (b .before .before .before .pre .0) (b .if1 .left) (c .before .nodes .ensures) (c .before .before .before .before .before .before .wide .ensures) (c .before .before .before .before .wide2 .ensures) (c .before .before .before .before .before .item-count .ensures) (c .before .before .wide3 .ensures) (c .before .before .before .items .ensures) (c .if2 .left)
+    let n = c .before in
+    let k = ended n .before in
+    let w = k .before in
+    let f = w .before in
+    let s = f .before .before .before in
+    node-count _ _ (f .before .first-item .ensures) (s .pre .0) (f .if1 .left) (n .nodes .ensures) (w .wide .ensures) (ended n .wide2 .ensures)
+    (k .item-count .ensures) (n .before .wide3 .ensures) (n .before .before .items .ensures) (c .if2 .left)
 
 pub count-right-spec : {M : Type 1} → statement M
 count-right-spec =

@@ -17,31 +17,42 @@ tables-requires c κs = search needs
 
 returns : tie.Need-returns
 returns c =
-    let b = c .before .before .before in
-    scan-past _ _ (b .before .before .operator .ensures) (b .before .left .ensures) (b .right .ensures) (c .before .tables .ensures) (c .before .before .if1 .taken) (c .if2 .taken)
+    let r = c .before .before .before in
+    let l = r .before in
+    scan-past _ _ (l .before .operator .ensures) (l .left .ensures) (r .right .ensures) (c .before .tables .ensures) (c .before .before .if1 .taken)
+    (c .if2 .taken)
 
 returns-2 : tie.Need-returns-2
 returns-2 c =
-    let b = c .before .before .before in
-    scan-within _ _ (b .before .before .operator .ensures) (b .before .left .ensures) (b .right .ensures) (c .before .tables .ensures) (c .before .before .if1 .taken) (c .if2 .left)
+    let r = c .before .before .before in
+    let l = r .before in
+    scan-within _ _ (l .before .operator .ensures) (l .left .ensures) (r .right .ensures) (c .before .tables .ensures) (c .before .before .if1 .taken)
+    (c .if2 .left)
 
 returns-3 : tie.Need-returns-3
 returns-3 c =
-    let b = c .before .before in
-    left-past _ _ (b .before .before .operator .ensures) (b .before .left .ensures) (b .right .ensures) (c .before .if1 .left) (c .if3 .taken)
+    let r = c .before .before in
+    let l = r .before in
+    left-past _ _ (l .before .operator .ensures) (l .left .ensures) (r .right .ensures) (c .before .if1 .left) (c .if3 .taken)
 
 has-right-requires : tie.Need-has-right-requires
 has-right-requires c κs = search needs
 
 returns-4 : tie.Need-returns-4
 returns-4 c =
-    let b = c .before .before .before .before in
-    right-there _ _ (b .before .before .operator .ensures) (b .before .left .ensures) (b .right .ensures) (c .before .before .before .if1 .left) (c .before .before .if3 .left) (c .before .has-right .ensures) (c .if4 .taken)
+    let i = c .before .before in
+    let r = i .before .before in
+    let l = r .before in
+    right-there _ _ (l .before .operator .ensures) (l .left .ensures) (r .right .ensures) (i .before .if1 .left) (i .if3 .left)
+    (c .before .has-right .ensures) (c .if4 .taken)
 
 returns-5 : tie.Need-returns-5
 returns-5 c =
-    let b = c .before .before .before .before in
-    right-none _ _ (b .before .before .operator .ensures) (b .before .left .ensures) (b .right .ensures) (c .before .before .before .if1 .left) (c .before .before .if3 .left) (c .before .has-right .ensures) (c .if4 .left)
+    let i = c .before .before in
+    let r = i .before .before in
+    let l = r .before in
+    right-none _ _ (l .before .operator .ensures) (l .left .ensures) (r .right .ensures) (i .before .if1 .left) (i .if3 .left)
+    (c .before .has-right .ensures) (c .if4 .left)
 
 pub inputs-right-spec : {M : Type 1} → statement M
 inputs-right-spec =

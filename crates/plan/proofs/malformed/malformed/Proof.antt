@@ -14,7 +14,8 @@ use Rattle.plan.proofs.malformed.malformed.Statement.{statement}
 use Rattle.plan.proofs.malformed.malformed.Tie as tie
 
 abbrev Inv-loop : tie.InvT-loop
-Inv-loop words count before₀ n₀ before n = (n ≤ count) × (before ≤ items words) × (before ≡ itemsBefore words n) × (keep (λ k. not (nodeRight words k)) (upto n) ≡ [])
+Inv-loop words count before₀ n₀ before n =
+    (n ≤ count) × (before ≤ items words) × (before ≡ itemsBefore words n) × (keep (λ k. not (nodeRight words k)) (upto n) ≡ [])
 
 abbrev μ-loop : tie.MeasureT-loop
 μ-loop words count before₀ n₀ before n = count - n
@@ -31,7 +32,10 @@ node-right-requires c κs =
     (c .before .loop .inv .2, omega (arith, c .before .loop .inv .1, f .items-few), omega (arith, f .nodes-few), f .items-few)
 
 returns : tie.Need-returns Inv-loop μ-loop
-returns c = wrong-found (nodeRight _) _ (c .before .node-right .ensures) (c .before .before .before .loop .inv .3) (c .if1 .taken) (c .before .before .before .before .nodes .ensures) (c .before .before .loop-test .taken)
+returns c =
+    let t = c .before .before in
+    let l = t .before in
+    wrong-found (nodeRight _) _ (c .before .node-right .ensures) (l .loop .inv .3) (c .if1 .taken) (l .before .nodes .ensures) (t .loop-test .taken)
 
 item-count-requires : tie.Need-item-count-requires Inv-loop μ-loop
 item-count-requires c κs = search needs
@@ -53,7 +57,12 @@ loop-again c =
     let l = c .before .before .before .before .loop in
     let says = c .before .before .node-right .ensures in
     let fine = c .before .if1 .left in
-    (omega arith, before-within _ (l .n) says fine (l .inv .2) (c .item-count .ensures), before-more _ (l .n) (l .inv .2) (c .item-count .ensures), wrong-more (nodeRight _) (l .n) says (l .inv .3) fine)
+    let count = c .item-count .ensures in (
+      omega arith,
+      before-within _ (l .n) says fine (l .inv .2) count,
+      before-more _ (l .n) (l .inv .2) count,
+      wrong-more (nodeRight _) (l .n) says (l .inv .3) fine,
+    )
 
 returns-2 : tie.Need-returns-2 Inv-loop μ-loop
 returns-2 c =

@@ -45,8 +45,11 @@ loop-again : tie.Need-loop-again Inv-loop μ-loop
 loop-again c =
     let b = c .before .before in
     let l = b .before .before .before .loop in
-    let s = b .before .before .before .before .before .args in
-    (omega arith, reach-more (λ j. itemAt (s .words .now) (s .a + j)) (l .i) (l .inv .1) (b .before .term-reach .ensures) (b .term-reach2 .ensures) (c .before .larger .ensures) (c .larger2 .ensures))
+    let s = b .before .before .before .before .before .args in (
+      omega arith,
+      reach-more (λ j. itemAt (s .words .now) (s .a + j)) (l .i) (l .inv .1) (b .before .term-reach .ensures) (b .term-reach2 .ensures)
+          (c .before .larger .ensures) (c .larger2 .ensures),
+    )
 
 returns : tie.Need-returns Inv-loop μ-loop
 returns c = let q : c .before .loop .i ≡ c .before .before .before .args .count = omega arith in rw (← q) (c .before .loop .inv .1)

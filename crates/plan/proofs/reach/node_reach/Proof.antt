@@ -1,8 +1,71 @@
+use mathlib.Core.Path.{_≡_, refl, sym, ap, _∙_}
+use mathlib.Core.Bool.{true}
+use mathlib.Core.List.{List}
+use Prim.Native.Nat.{ℕ}
 use lib.ListN.{getD}
-use Rattle.plan.proofs.Laws.Reach.{items-asked, left-in, right-in, scan-reach, one-reach, past-reach, none-reach, both-reach}
+use borrow.Author.Tests.{not-true, not-false}
 use borrow.Author.Needs.{needs}
+use Rattle.plan.specs.Words.{left, right}
+use Rattle.plan.specs.Verdict.{hasRight}
+use Rattle.plan.specs.Passes.{nodeReach}
+use Rattle.plan.proofs.Laws.Reach.{items-asked, left-in, right-in, reachBy, own-reach, reach-read}
+use Rattle.plan.proofs.Laws.Reach.{scan-reach, one-reach, past-reach, none-reach, both-reach}
 use Rattle.plan.proofs.reach.node_reach.Statement.{statement}
 use Rattle.plan.proofs.reach.node_reach.Tie as tie
+
+-- ---- the places
+
+abbrev operated : tie.After-items-reach → tie.After-operator
+operated c = c .before .before .before
+
+abbrev words : tie.After-items-reach → List ℕ
+words c = operated c .before .before .args .words .now
+
+abbrev node : tie.After-items-reach → ℕ
+node c = operated c .before .before .args .n
+
+-- the reach of a node before
+abbrev at : tie.After-items-reach → ℕ → ℕ
+at c k = getD (operated c .before .before .args .reaches .now) k 0
+
+-- those of the inputs
+abbrev of-left : tie.After-items-reach → ℕ
+of-left c = at c (left (words c) (node c))
+
+abbrev of-right : tie.After-items-reach → ℕ
+of-right c = at c (right (words c) (node c))
+
+-- the node's own items are read
+abbrev own : tie.After-wide → tie.After-items-reach
+own c = c .before .before .before
+
+-- the left input is read
+abbrev entered : tie.After-has-right → tie.After-wide
+entered c = c .before .before .before
+
+-- the node has a right input
+abbrev tested : tie.After-wide2 → tie.After-has-right
+tested c = c .before .before .before
+
+-- ---- what is known of the node and its inputs
+
+-- an answer for what the code read is one for the node
+for-node : (c : tie.After-items-reach) {l r y : ℕ} → l ≡ of-left c → r ≡ of-right c
+    → y ≡ reachBy (operated c .operator .result) (c .items-reach .result) l r → y ≡ nodeReach (words c) (at c) (node c)
+for-node c =
+    reach-read (words c) (node c) (at c) (operated c .operator .ensures)
+    (own-reach _ _ (c .before .before .first-item .ensures) (c .before .item-count .ensures) (c .items-reach .ensures))
+
+left-reach : (c : tie.After-wide) → at (own c) (c .wide .result) ≡ of-left (own c)
+left-reach c = ap (at (own c)) (c .wide .ensures ∙ c .before .left .ensures)
+
+right-reach : (c : tie.After-wide2) → at (own (entered (tested c))) (c .wide2 .result) ≡ of-right (own (entered (tested c)))
+right-reach c = ap (at (own (entered (tested c)))) (c .wide2 .ensures ∙ c .before .right .ensures)
+
+two-inputs : (c : tie.After-wide2) → hasRight (operated (own (entered (tested c))) .operator .result) ≡ true
+two-inputs c = sym (tested c .has-right .ensures) ∙ not-false _ (c .before .before .if2 .left)
+
+-- ---- the needs
 
 operator-requires : tie.Need-operator-requires
 operator-requires c κs = search needs
@@ -19,10 +82,7 @@ items-reach-requires c κs =
     items-asked _ (s .pre .0) _ (s .pre .1) (c .before .first-item .ensures) (c .item-count .ensures)
 
 returns : tie.Need-returns
-returns c =
-    let i = c .before in
-    scan-reach _ _ (λ k. getD (i .before .before .before .before .before .args .reaches .now) k 0)
-    (i .before .before .before .operator .ensures) (i .before .before .first-item .ensures) (i .before .item-count .ensures) (i .items-reach .ensures) (c .if1 .taken)
+returns c = for-node (c .before) refl refl (scan-reach _ _ _ (of-right (c .before)) (c .if1 .taken))
 
 left-requires : tie.Need-left-requires
 left-requires c κs = search needs
@@ -35,7 +95,7 @@ mul-larger c = search needs
 
 element-copy-out-larger : tie.Need-element-copy-out-larger
 element-copy-out-larger c =
-    let o = c .before .before .before .before .before .before in
+    let o = operated (own c) in
     let s = o .before .before in
     left-in _ (s .pre .0) _ (s .pre .1) (o .operator .ensures) (c .before .before .if1 .left) (c .before .left .ensures) (c .wide .ensures)
 
@@ -47,12 +107,11 @@ has-right-requires c κs = search needs
 
 returns-2 : tie.Need-returns-2
 returns-2 c =
-    let r = c .before in
-    let i = r .before .before .before .before .before .before in
-    one-reach _ _ (λ k. getD (i .before .before .before .before .before .args .reaches .now) k 0)
-    (i .before .before .before .operator .ensures) (i .before .before .first-item .ensures) (i .before .item-count .ensures) (i .items-reach .ensures)
-    (r .before .before .before .before .before .if1 .left) (r .before .before .before .before .left .ensures) (r .before .before .before .wide .ensures) (r .before .larger .ensures) (r .has-right .ensures)
-    (c .if2 .taken)
+    let h = c .before in
+    let w = entered h in
+    for-node (own w) (left-reach w) refl
+    (one-reach _ _ _ (of-right (own w)) (w .before .before .if1 .left) (sym (h .has-right .ensures) ∙ not-true _ (c .if2 .taken))
+    (h .before .larger .ensures))
 
 right-requires : tie.Need-right-requires
 right-requires c κs = search needs
@@ -65,9 +124,11 @@ mul-r c = search needs
 
 element-copy-out-r : tie.Need-element-copy-out-r
 element-copy-out-r c =
-    let o = c .before .before .before .before .before .before .before .before .before .before .before .before in
+    let h = tested c in
+    let o = operated (own (entered h)) in
     let s = o .before .before in
-    right-in _ (s .pre .0) _ (s .pre .1) (o .operator .ensures) (c .before .before .before .has-right .ensures) (c .before .before .if2 .left) (c .before .right .ensures) (c .wide2 .ensures)
+    right-in _ (s .pre .0) _ (s .pre .1) (o .operator .ensures) (h .has-right .ensures) (c .before .before .if2 .left) (c .before .right .ensures)
+    (c .wide2 .ensures)
 
 sub-larger : tie.Need-sub-larger
 sub-larger c = search needs
@@ -77,33 +138,28 @@ larger-requires-2 c κs = search needs
 
 returns-3 : tie.Need-returns-3
 returns-3 c =
-    let r = c .before .before .before .before .before .before .before in
-    let i = r .before .before .before .before .before .before in
-    past-reach _ _ (λ k. getD (i .before .before .before .before .before .args .reaches .now) k 0)
-    (i .before .before .before .operator .ensures) (i .before .before .first-item .ensures) (i .before .item-count .ensures) (i .items-reach .ensures)
-    (r .before .before .before .before .before .if1 .left) (r .before .before .before .before .left .ensures) (r .before .before .before .wide .ensures) (r .before .larger .ensures) (r .has-right .ensures)
-    (c .before .before .before .before .before .before .if2 .left) (c .before .before .before .before .before .right .ensures) (c .before .before .before .before .wide2 .ensures) (c .before .before .if3 .taken) (c .larger2 .ensures)
+    let r = c .before .before .before .before in
+    let h = tested r in
+    for-node (own (entered h)) (left-reach (entered h)) (right-reach r)
+    (past-reach _ _ _ _ (c .before .before .if3 .taken) (h .before .larger .ensures) (c .larger2 .ensures))
 
 returns-4 : tie.Need-returns-4
 returns-4 c =
-    let r = c .before .before .before .before .before .before in
-    let i = r .before .before .before .before .before .before in
-    none-reach _ _ (λ k. getD (i .before .before .before .before .before .args .reaches .now) k 0)
-    (i .before .before .before .operator .ensures) (i .before .before .first-item .ensures) (i .before .item-count .ensures) (i .items-reach .ensures)
-    (r .before .before .before .before .before .if1 .left) (r .before .before .before .before .left .ensures) (r .before .before .before .wide .ensures) (r .before .larger .ensures) (r .has-right .ensures)
-    (c .before .before .before .before .before .if2 .left) (c .before .before .before .before .right .ensures) (c .before .before .before .wide2 .ensures) (c .before .if3 .taken) (c .if4 .left)
+    let r = c .before .before .before in
+    let h = tested r in
+    for-node (own (entered h)) (left-reach (entered h)) (right-reach r)
+    (none-reach _ _ _ _ (c .before .if3 .taken) (c .if4 .left) (h .before .larger .ensures))
 
 larger-requires-3 : tie.Need-larger-requires-3
 larger-requires-3 c κs = search needs
 
 returns-5 : tie.Need-returns-5
 returns-5 c =
-    let r = c .before .before .before .before .before .before in
-    let i = r .before .before .before .before .before .before in
-    both-reach _ _ (λ k. getD (i .before .before .before .before .before .args .reaches .now) k 0)
-    (i .before .before .before .operator .ensures) (i .before .before .first-item .ensures) (i .before .item-count .ensures) (i .items-reach .ensures)
-    (r .before .before .before .before .before .if1 .left) (r .before .before .before .before .left .ensures) (r .before .before .before .wide .ensures) (r .before .larger .ensures) (r .has-right .ensures)
-    (c .before .before .before .before .before .if2 .left) (c .before .before .before .before .right .ensures) (c .before .before .before .wide2 .ensures) (c .before .if3 .left) (c .larger3 .ensures)
+    let r = c .before .before .before in
+    let h = tested r in
+    let w = entered h in
+    for-node (own w) (left-reach w) (right-reach r)
+    (both-reach _ _ _ _ (w .before .before .if1 .left) (two-inputs r) (c .before .if3 .left) (h .before .larger .ensures) (c .larger3 .ensures))
 
 pub node-reach-spec : {M : Type 1} → statement M
 node-reach-spec =

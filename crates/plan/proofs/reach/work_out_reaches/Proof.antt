@@ -48,7 +48,13 @@ loop-again c =
     let t = c .before .before .before in
     let l = t .before .loop in
     let s = t .before .before .before .before in
-    (simp length-set (l .inv .0), omega arith, table-more (l .reaches) (l .n) (λ m. reach (shapeAt (widthsOf (s .args .words .now)) (nodesOf (s .args .words .now)) m .reads)) (l .inv .2) (omega (arith, limited _ (s .pre .sized) .nodes-few)) (c .wide .ensures) (c .before .node-reach .ensures ∙ reach-of _ (s .pre) (l .n) (omega arith) (λ m. getD (l .reaches) m 0) (l .inv .2)))
+    let ws = s .args .words .now in
+    let one = c .before .node-reach .ensures ∙ reach-of _ (s .pre) (l .n) (omega arith) (λ m. getD (l .reaches) m 0) (l .inv .2) in (
+      simp length-set (l .inv .0),
+      omega arith,
+      table-more (l .reaches) (l .n) (λ m. reach (shapeAt (widthsOf ws) (nodesOf ws) m .reads)) (l .inv .2)
+          (omega (arith, limited _ (s .pre .sized) .nodes-few)) (c .wide .ensures) one,
+    )
 
 returns : tie.Need-returns Inv-loop μ-loop
 returns c = λ m h. c .before .loop .inv .2 m (omega arith)

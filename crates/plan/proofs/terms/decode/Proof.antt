@@ -32,7 +32,10 @@ returns-2 : tie.Need-returns-2
 returns-2 c = term-outer _ _ _ (omega arith) (c .before .before .item-word2 .ensures) (c .before .item-word3 .ensures)
 
 returns-3 : tie.Need-returns-3
-returns-3 c = term-constant _ _ _ (omega arith) (toZ-ofZ w64 (c .signed-word .result) (record { sfits = c .signed-word .ok }) ∙ c .signed-word .ensures) (c .before .before .item-word3 .ensures)
+returns-3 c =
+    let s = c .signed-word in
+    let same = toZ-ofZ w64 (s .result) (record { sfits = s .ok }) ∙ s .ensures in
+    term-constant _ _ _ (omega arith) same (c .before .before .item-word3 .ensures)
 
 returns-4 : tie.Need-returns-4
 returns-4 c = term-null _ (omega arith) (omega arith) (omega arith)

@@ -1,8 +1,9 @@
 use mathlib.Core.Path.{_∙_}
 use mathlib.Core.Logic.{⊎-elim}
-use Prim.Native.Nat.{_-_, _≤_}
+use Prim.Native.Nat.{_-_, _≤_, _<_}
 use native.Mathlib.Omega.{arith}
 use borrow.Author.Needs.{needs}
+use Rattle.plan.specs.Words.{nodes}
 use Rattle.plan.proofs.Laws.Uses.{Tally, seen, seenLeft, tally-none, left-fits, left-added, left-kept, right-fits, right-added, right-kept, tally-end}
 use Rattle.plan.proofs.uses.count_uses.Statement.{statement}
 use Rattle.plan.proofs.uses.count_uses.Tie as tie
@@ -12,6 +13,34 @@ Inv-loop words uses₀ count n₀ uses n = (n ≤ count) × Tally uses (seen wor
 
 abbrev μ-loop : tie.MeasureT-loop
 μ-loop words uses₀ count n₀ uses n = count - n
+
+-- ---- what is known in a turn
+
+abbrev Turn : Type 0
+Turn = tie.At-loop Inv-loop μ-loop
+
+abbrev start : Turn → tie.Start Inv-loop μ-loop
+start c = c .before .before .before
+
+abbrev turn : tie.After-operator Inv-loop μ-loop → Turn
+turn c = c .before .before
+
+below : (c : tie.After-operator Inv-loop μ-loop) → turn c .loop .n < nodes (start (turn c) .args .words .now)
+below c = rw (turn c .before .nodes .ensures) at (c .before .loop-test .taken)
+
+-- the table once the left input is counted
+lefts : (c : tie.Joined1 Inv-loop μ-loop)
+    → Tally (c .if1 .uses) (seenLeft (start (turn (c .before)) .args .words .now) (turn (c .before) .loop .n))
+lefts c =
+    let o = c .before in
+    let t = turn o .loop .inv .1 in
+    let p = start (turn o) .pre in
+    ⊎-elim
+    (λ w. left-added p (below o) (o .operator .ensures) t (w .2 .ensures) (w .0 .taken) (w .4 ∙ w .3 .ensures))
+    (λ w. left-kept p (below o) (o .operator .ensures) t (w .0 .left) (w .1))
+    (c .if1 .came)
+
+-- ---- the needs
 
 nodes-requires : tie.Need-nodes-requires Inv-loop μ-loop
 nodes-requires c κs = search needs
@@ -27,8 +56,9 @@ left-requires c κs = search needs
 
 add-use-requires : tie.Need-add-use-requires Inv-loop μ-loop
 add-use-requires c κs =
-    let b = c .before .before .before .before .before in
-    left-fits (b .before .before .before .pre) (rw (b .before .nodes .ensures) at (c .before .before .before .before .loop-test .taken)) (c .before .before .before .operator .ensures) (b .loop .inv .1) (c .left .ensures) (c .before .before .if1 .taken)
+    let t = c .before .before in
+    let o = t .before in
+    left-fits (start (turn o) .pre) (below o) (o .operator .ensures) (turn o .loop .inv .1) (c .left .ensures) (t .if1 .taken)
 
 has-right-requires : tie.Need-has-right-requires Inv-loop μ-loop
 has-right-requires c κs = search needs
@@ -38,18 +68,10 @@ right-requires c κs = search needs
 
 add-use-requires-2 : tie.Need-add-use-requires-2 Inv-loop μ-loop
 add-use-requires-2 c κs =
-    let b = c .before .before .before .before in
-    let l = b .before .before .before in
-    let s = l .before .before .before in
-    let h = rw (l .before .nodes .ensures) at (b .before .before .loop-test .taken) in
-    let o = b .before .operator .ensures in
-    let t : Tally (b .if1 .uses) (seenLeft (s .args .words .now) (l .loop .n)) =
-    ⊎-elim
-    (λ w. left-added (s .pre) h o (l .loop .inv .1) (w .2 .ensures) (w .0 .taken) (w .4 ∙ w .3 .ensures))
-    (λ w. left-kept (s .pre) h o (l .loop .inv .1) (w .0 .left) (w .1))
-    (b .if1 .came)
-    in
-    right-fits (s .pre) h o (c .before .before .before .has-right .ensures) t (c .right .ensures) (c .before .before .if2 .taken)
+    let t = c .before .before in
+    let j = t .before .before in
+    let o = j .before in
+    right-fits (start (turn o) .pre) (below o) (o .operator .ensures) (t .before .has-right .ensures) (lefts j) (c .right .ensures) (t .if2 .taken)
 
 add-n : tie.Need-add-n Inv-loop μ-loop
 add-n c = search needs
@@ -59,25 +81,16 @@ loop-less c = search needs
 
 loop-again : tie.Need-loop-again Inv-loop μ-loop
 loop-again c =
-    let b = c .before .before in
-    let l = b .before .before .before in
-    let s = l .before .before .before in
-    let h = rw (l .before .nodes .ensures) at (b .before .before .loop-test .taken) in
-    let o = b .before .operator .ensures in
-    let t : Tally (b .if1 .uses) (seenLeft (s .args .words .now) (l .loop .n)) =
-    ⊎-elim
-    (λ w. left-added (s .pre) h o (l .loop .inv .1) (w .2 .ensures) (w .0 .taken) (w .4 ∙ w .3 .ensures))
-    (λ w. left-kept (s .pre) h o (l .loop .inv .1) (w .0 .left) (w .1))
-    (b .if1 .came)
-    in
-    let has = c .before .has-right .ensures in
-    let r =
-    ⊎-elim
-    (λ w. right-added (s .pre) h o has t (w .2 .ensures) (w .0 .taken) (w .4 ∙ w .3 .ensures))
-    (λ w. right-kept (s .pre) h o has t (w .0 .left) (w .1))
-    (c .if2 .came)
-    in
-    (omega arith, r)
+    let j = c .before .before in
+    let o = j .before in
+    let p = start (turn o) .pre in
+    let has = c .before .has-right .ensures in (
+      omega arith,
+      ⊎-elim
+          (λ w. right-added p (below o) (o .operator .ensures) has (lefts j) (w .2 .ensures) (w .0 .taken) (w .4 ∙ w .3 .ensures))
+          (λ w. right-kept p (below o) (o .operator .ensures) has (lefts j) (w .0 .left) (w .1))
+          (c .if2 .came),
+    )
 
 returns : tie.Need-returns Inv-loop μ-loop
 returns c = tally-end _ (c .before .loop .n) (c .before .before .nodes .ensures) (c .before .loop .inv .1) (c .loop-test .left) (c .before .loop .inv .0)

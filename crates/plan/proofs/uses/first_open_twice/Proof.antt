@@ -45,13 +45,14 @@ element-copy-out-if2 c = omega (arith, limited _ (c .before .before .before .bef
 
 returns : tie.Need-returns Inv-loop μ-loop
 returns c =
-    let w = c .before .before .before .before .before in
+    let t = c .before .before .before in
+    let w = t .before .before in
     let l = w .before .before .loop in
     let s = w .before .before .before .before .before in
     let ws = s .args .words .now in
-    lowest-found (isOpenTwice ws) (l .n) (nodes ws) (l .inv .1)
-    (open-twice ws (s .args .uses .now) (s .args .reaches .now) (s .pre .0) (s .pre .1) (s .pre .2) (l .n) (omega arith) (w .wide .ensures) (c .before .before .before .if1 .taken) (c .before .before .wide2 .ensures) (c .if2 .taken))
-    (omega arith)
+    let twice = open-twice (s .args .uses .now) (s .args .reaches .now) (s .pre .0) (s .pre .1) (s .pre .2) (l .n) (omega arith) (w .wide .ensures)
+    (t .if1 .taken) (c .before .before .wide2 .ensures) (c .if2 .taken) in
+    lowest-found (isOpenTwice ws) (l .n) (nodes ws) (l .inv .1) twice (omega arith)
 
 add-n : tie.Need-add-n Inv-loop μ-loop
 add-n c = search needs
@@ -64,12 +65,15 @@ loop-again c =
     let w = c .before .before in
     let l = w .before .before .loop in
     let s = w .before .before .before .before .before in
-    let ws = s .args .words .now in (
+    let ws = s .args .words .now in
+    let uses = s .args .uses .now in
+    let reaches = s .args .reaches .now in
+    let p = s .pre in (
       omega arith,
       none-more (isOpenTwice ws) (l .n) (l .inv .1)
           (⊎-elim
-          (λ a. open-once ws (s .args .uses .now) (s .args .reaches .now) (s .pre .0) (s .pre .1) (s .pre .2) (l .n) (omega arith) (w .wide .ensures) (a .0 .taken) (a .1 .ensures) (a .3 .left))
-          (λ a. closed-node ws (s .args .uses .now) (s .args .reaches .now) (s .pre .0) (s .pre .1) (s .pre .2) (l .n) (omega arith) (w .wide .ensures) (a .left))
+          (λ a. open-once uses reaches (p .0) (p .1) (p .2) (l .n) (omega arith) (w .wide .ensures) (a .0 .taken) (a .1 .ensures) (a .3 .left))
+          (λ a. closed-node uses reaches (p .0) (p .1) (p .2) (l .n) (omega arith) (w .wide .ensures) (a .left))
           (c .if1 .came)),
     )
 

@@ -16,6 +16,20 @@ Inv-loop words uses count n₀ n = (n + 1 ≤ count) × (keep (isUnusedNode word
 abbrev μ-loop : tie.MeasureT-loop
 μ-loop words uses count n₀ n = count - n
 
+-- ---- the places
+
+abbrev Turn : Type 0
+Turn = tie.At-loop Inv-loop μ-loop
+
+abbrev start : Turn → tie.Start Inv-loop μ-loop
+start c = c .before .before .before
+
+-- the place of the node in the table is read
+abbrev turn : tie.After-wide Inv-loop μ-loop → Turn
+turn c = c .before .before
+
+-- ---- the needs
+
 nodes-requires : tie.Need-nodes-requires Inv-loop μ-loop
 nodes-requires c κs = search needs
 
@@ -32,12 +46,15 @@ mul-if1 : tie.Need-mul-if1 Inv-loop μ-loop
 mul-if1 c = search needs
 
 element-copy-out-if1 : tie.Need-element-copy-out-if1 Inv-loop μ-loop
-element-copy-out-if1 c = omega (arith, limited _ (c .before .before .before .before .before .pre .0) .nodes-few)
+element-copy-out-if1 c = omega (arith, limited _ (start (turn c) .pre .0) .nodes-few)
 
 returns : tie.Need-returns Inv-loop μ-loop
 returns c =
-    let b = c .before .before .before .before in
-    unused-found (b .before .before .before .args .uses .now) (b .loop .n) (b .before .before .before .pre .0) (b .before .before .before .pre .1) (b .before .nodes .ensures) (b .loop .inv .1) (c .before .before .wide .ensures) (c .before .before .before .loop-test .taken) (c .if1 .taken)
+    let w = c .before .before in
+    let l = turn w in
+    let s = start l in
+    unused-found (s .args .uses .now) (l .loop .n) (s .pre .0) (s .pre .1) (l .before .nodes .ensures) (l .loop .inv .1) (w .wide .ensures)
+    (w .before .loop-test .taken) (c .if1 .taken)
 
 add-n : tie.Need-add-n Inv-loop μ-loop
 add-n c = search needs
@@ -47,13 +64,20 @@ loop-less c = search needs
 
 loop-again : tie.Need-loop-again Inv-loop μ-loop
 loop-again c =
-    let b = c .before .before .before .before in
-    (omega arith, unused-more (b .before .before .before .args .uses .now) (b .loop .n) (b .before .before .before .pre .0) (b .before .before .before .pre .1) (b .before .nodes .ensures) (b .loop .inv .1) (c .before .before .wide .ensures) (c .before .before .before .loop-test .taken) (c .if1 .left))
+    let w = c .before .before in
+    let l = turn w in
+    let s = start l in (
+      omega arith,
+      unused-more (s .args .uses .now) (l .loop .n) (s .pre .0) (s .pre .1) (l .before .nodes .ensures) (l .loop .inv .1) (w .wide .ensures)
+          (w .before .loop-test .taken) (c .if1 .left),
+    )
 
 returns-2 : tie.Need-returns-2 Inv-loop μ-loop
 returns-2 c =
-    let b = c .before in
-    unused-end (b .before .before .before .args .uses .now) (b .loop .n) (b .before .before .before .pre .0) (b .before .before .before .pre .1) (b .before .nodes .ensures) (b .loop .inv .1) (b .loop .inv .0) (c .loop-test .left)
+    let l = c .before in
+    let s = start l in
+    unused-end (s .args .uses .now) (l .loop .n) (s .pre .0) (s .pre .1) (l .before .nodes .ensures) (l .loop .inv .1) (l .loop .inv .0)
+    (c .loop-test .left)
 
 pub first-unused-spec : {M : Type 1} → statement M
 first-unused-spec =

@@ -12,7 +12,9 @@ returns : tie.Need-returns
 returns c = half-width (c .before .before .args .k) (omega arith) (omega arith) _ _
 
 returns-2 : tie.Need-returns-2
-returns-2 c = whole-width (c .before .args .k) (⊎-elim (λ a. omega arith) (λ a. omega arith) (c .if1 .came)) (⊎-elim (λ a. omega arith) (λ a. omega arith) (c .if1 .came)) _ _
+returns-2 c =
+    let came = c .if1 .came in
+    whole-width (c .before .args .k) (⊎-elim (λ a. omega arith) (λ a. omega arith) came) (⊎-elim (λ a. omega arith) (λ a. omega arith) came) _ _
 
 pub join-width-spec : {M : Type 1} → statement M
 join-width-spec = tie.close (tie.spec add-result returns returns-2)

@@ -57,10 +57,11 @@ loop-again c =
     let w = c .before .before in
     let l = w .before .before .before .loop in
     let s = w .before .before .before .before .before .before in
-    let ws = s .args .words .now in (
+    let ws = s .args .words .now in
+    let one = width-is ws (l .rows) (l .n) (l .inv .2) (l .inv .3) (s .pre) (omega arith) (w .node-width .ensures) in (
       simp length-set (l .inv .0),
       omega arith,
-      table-more (l .rows) (l .n) (widthAt ws) (l .inv .2) (omega (arith, limited _ (s .pre .sized) .nodes-few)) (c .wide .ensures) (width-is ws (l .rows) (l .n) (l .inv .2) (l .inv .3) (s .pre) (omega arith) (w .node-width .ensures)),
+      table-more (l .rows) (l .n) (widthAt ws) (l .inv .2) (omega (arith, limited _ (s .pre .sized) .nodes-few)) (c .wide .ensures) one,
       narrow-more ws (l .rows) (l .n) (l .inv .2) (l .inv .3) (s .pre) (omega arith) (w .node-width .ensures) (c .before .if1 .left),
     )
 

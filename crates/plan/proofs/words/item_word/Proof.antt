@@ -44,7 +44,10 @@ word-requires c κs = search needs
 returns : tie.Need-returns
 returns c =
     let b = c .before .before .before in
-    rw (c .before .wide4 .ensures, c .before .before .wide3 .ensures, b .wide2 .ensures, b .before .nodes .ensures, b .before .before .wide .ensures, b .before .before .before .tables .ensures) at (c .word .ensures)
+    let n = b .before in
+    let t = n .before .before in
+    rw (c .before .wide4 .ensures, c .before .before .wide3 .ensures, b .wide2 .ensures, n .nodes .ensures, n .before .wide .ensures, t .tables .ensures)
+    at (c .word .ensures)
 
 pub item-word-spec : {M : Type 1} → statement M
 item-word-spec =

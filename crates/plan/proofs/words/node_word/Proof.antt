@@ -30,7 +30,9 @@ word-requires : tie.Need-word-requires
 word-requires c κs = search needs
 
 returns : tie.Need-returns
-returns c = rw (c .before .wide3 .ensures, c .before .before .wide2 .ensures, c .before .before .before .wide .ensures, c .before .before .before .before .tables .ensures) at (c .word .ensures)
+returns c =
+    let b = c .before .before in
+    rw (c .before .wide3 .ensures, b .wide2 .ensures, b .before .wide .ensures, b .before .before .tables .ensures) at (c .word .ensures)
 
 pub node-word-spec : {M : Type 1} → statement M
 node-word-spec =

@@ -47,7 +47,16 @@ array-read-t50 : tie.Need-array-read-t50
 array-read-t50 c = search needs
 
 returns : tie.Need-returns
-returns c = record { node = refl; width = refl; first-set = refl; first-base = refl; other-sets = moved (c .before .before .args .set) (c .before .before .args .d .sets); other-bases = moved (c .before .before .args .base) (c .before .before .args .d .bases) }
+returns c =
+    let a = c .before .before .args in
+    record {
+      node = refl;
+      width = refl;
+      first-set = refl;
+      first-base = refl;
+      other-sets = moved (a .set) (a .d .sets);
+      other-bases = moved (a .base) (a .d .bases);
+    }
 
 pub deeper-spec : {M : Type 1} → statement M
 deeper-spec =

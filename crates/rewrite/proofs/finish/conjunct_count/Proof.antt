@@ -17,12 +17,16 @@ count-tagged-requires c κs = search needs
 
 returns : tie.Need-returns
 returns c =
-    let a = c .before .before .before .before .before .before .args in
-    count-some (a .words .now) (a .n) _ _ (c .before .before .before .operator .ensures) (c .before .before .before .before .item-count .ensures) _ _ (c .before .before .if1 .taken) (c .before .first-item .ensures) (c .count-tagged .ensures)
+    let o = c .before .before .before in
+    let a = o .before .before .before .args in
+    count-some (a .words .now) (a .n) _ _ (o .operator .ensures) (o .before .item-count .ensures) _ _
+    (c .before .before .if1 .taken) (c .before .first-item .ensures) (c .count-tagged .ensures)
 
 returns-2 : tie.Need-returns-2
 returns-2 c =
-    let a = c .before .before .before .before .args in count-all (a .words .now) (a .n) _ _ (c .before .operator .ensures) (c .before .before .item-count .ensures) (c .if1 .left)
+    let o = c .before in
+    let a = o .before .before .before .args in
+    count-all (a .words .now) (a .n) _ _ (o .operator .ensures) (o .before .item-count .ensures) (c .if1 .left)
 
 pub conjunct-count-spec : {M : Type 1} → statement M
 conjunct-count-spec =

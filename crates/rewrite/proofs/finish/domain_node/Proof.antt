@@ -16,7 +16,9 @@ push-node-requires c κs = search needs
 returns : tie.Need-returns
 returns c =
     let a = c .before .before .before .before .before .args in
-    grows (map (positionWords 11) (members (a .set))) (group (members (a .set)) [] (a .i)) (c .before .before .before .set-keys .ensures) (c .push-node .ensures) (domain-written (members (a .set)) (a .i))
+    let ks = members (a .set) in
+    grows (map (positionWords 11) ks) (group ks [] (a .i)) (c .before .before .before .set-keys .ensures) (c .push-node .ensures)
+    (domain-written ks (a .i))
 
 pub domain-node-spec : {M : Type 1} → statement M
 domain-node-spec = tie.close (tie.spec set-keys-requires push-node-requires returns)

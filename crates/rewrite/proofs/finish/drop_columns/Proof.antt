@@ -25,8 +25,12 @@ returns c =
 
 returns-2 : tie.Need-returns-2
 returns-2 c =
-    let a = c .before .before .before .before .before .before .before .before .before .args in
-    columns-dropped (a .k) (a .n) (a .m) (a .w) _ (⊎-elim (λ x. inl (x .taken)) (λ x. inr (x .1 .left)) (c .before .before .before .before .before .before .before .before .if1 .came)) (c .before .before .before .before .before .before .before .last .ensures) (c .before .before .before .before .before .columns .ensures) (c .before .before .before .columns2 .ensures) (c .push-node .ensures)
+    let second = c .before .before .before in
+    let first = second .before .before in
+    let l = first .before .before in
+    let a = l .before .before .args in
+    columns-dropped (a .k) (a .n) (a .m) (a .w) _ (⊎-elim (λ x. inl (x .taken)) (λ x. inr (x .1 .left)) (l .before .if1 .came))
+    (l .last .ensures) (first .columns .ensures) (second .columns2 .ensures) (c .push-node .ensures)
 
 pub drop-columns-spec : {M : Type 1} → statement M
 drop-columns-spec =

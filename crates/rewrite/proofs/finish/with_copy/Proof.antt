@@ -11,15 +11,22 @@ use borrow.Author.Needs.{needs}
 use Rattle.rewrite.proofs.finish.with_copy.Statement.{statement}
 use Rattle.rewrite.proofs.finish.with_copy.Tie as tie
 
--- the node and its items are read
-node-read : (c : tie.After-item-count) → Read (c .before .before .before .args .words .now) (c .before .before .before .args .n) (c .before .first-item .result) (c .item-count .result)
-node-read c = let s = c .before .before .before in read-node (s .args .words .now) (s .args .n) (s .pre .0) (s .pre .1) (c .before .first-item .ensures) (c .item-count .ensures)
+-- ---- the node, its items and its conjuncts are read
+
+abbrev start : tie.After-item-count → tie.Start
+start c = c .before .before .before
+
+node-read : (c : tie.After-item-count)
+    → Read (start c .args .words .now) (start c .args .n) (c .before .first-item .result) (c .item-count .result)
+node-read c = read-node (start c .pre .0) (start c .pre .1) (c .before .first-item .ensures) (c .item-count .ensures)
 
 -- its conjuncts, and what stands behind them, are within the limits
 few : (c : tie.After-conjunct-count)
     → (c .conjunct-count .result ≤ c .before .item-count .result) × (c .before .before .first-item .result + c .conjunct-count .result ≤ 2000)
     × (c .before .before .first-item .result + c .conjunct-count .result + (c .before .item-count .result - c .conjunct-count .result) ≤ 2000)
-few c = fronts _ _ _ _ (node-read (c .before)) _ (c .conjunct-count .ensures)
+few c = fronts (node-read (c .before)) (c .conjunct-count .ensures)
+
+-- ---- the needs
 
 first-item-requires : tie.Need-first-item-requires
 first-item-requires c κs = search needs
@@ -28,15 +35,13 @@ item-count-requires : tie.Need-item-count-requires
 item-count-requires c κs = search needs
 
 conjunct-count-requires : tie.Need-conjunct-count-requires
-conjunct-count-requires c κs =
-    let s = c .before .before .before in within _ _ _ _ (read-node (s .args .words .now) (s .args .n) (s .pre .0) (s .pre .1) refl refl)
+conjunct-count-requires c κs = within (read-node (start c .pre .0) (start c .pre .1) refl refl)
 
 moved-requires : tie.Need-moved-requires
 moved-requires c κs =
-    let s = c .before .before .before .before .before in
-    let r = node-read (c .before .before) in
-    let e = c .before .conjunct-count .ensures in
-    (fronts _ _ _ _ r _ e .1, search needs, search needs, movable _ _ _ _ r (no-project (s .pre .2)) (no-group (s .pre .2)) _ e)
+    let i = c .before .before in
+    let two = start i .pre .2 in
+    (few (c .before) .1, search needs, search needs, movable (node-read i) (no-project two) (no-group two) (c .before .conjunct-count .ensures))
 
 operator-requires : tie.Need-operator-requires
 operator-requires c κs = search needs
@@ -65,11 +70,16 @@ push-node-requires c κs = search needs
 returns : tie.Need-returns
 returns c =
     λ D m.
-    let s = c .before .before .before .before .before .before .before .before .before .before .before .before .before in
+    let q = c .before .before .before in
+    let t = q .before .before in
+    let v = t .before .before in
+    let k = v .before .before in
+    let s = start (k .before) in
     let a = s .args in
-    let r = node-read (c .before .before .before .before .before .before .before .before .before .before) in
-    grows _ (withCopy D (a .i) (a .j) (nodeAt (a .words .now) (a .n))) (added-then _ _ _ _ _ _ _ _ (c .before .before .before .before .before .before .before .moved .ensures D m) (c .before .before .before .copied .ensures)) (c .push-node .ensures)
-    (groupjoin-copied (a .words .now) (a .n) _ _ r (s .pre .2) D (a .d .width) (a .i) (a .j) _ (m .width) (c .before .before .before .before .before .before .before .before .before .conjunct-count .ensures) (sym (c .before .before .before .before .before .before .operator .ensures) ∙ c .before .before .before .before .before .if1 .taken))
+    grows _ (withCopy D (a .i) (a .j) (nodeAt (a .words .now) (a .n))) (added-then _ _ (v .moved .ensures D m) (q .copied .ensures))
+    (c .push-node .ensures)
+    (groupjoin-copied (node-read (k .before)) (s .pre .2) D (a .i) (a .j) (m .width) (k .conjunct-count .ensures)
+    (sym (t .before .operator .ensures) ∙ t .if1 .taken))
 
 kind-requires : tie.Need-kind-requires
 kind-requires c κs = search needs
@@ -80,11 +90,14 @@ push-node-requires-2 c κs = search needs
 returns-2 : tie.Need-returns-2
 returns-2 c =
     λ D m.
-    let s = c .before .before .before .before .before .before .before .before .before .before .before .before in
+    let t = c .before .before .before .before in
+    let v = t .before .before in
+    let k = v .before .before in
+    let s = start (k .before) in
     let a = s .args in
-    let r = node-read (c .before .before .before .before .before .before .before .before .before) in
-    grows _ (withCopy D (a .i) (a .j) (nodeAt (a .words .now) (a .n))) (c .before .before .before .before .before .before .moved .ensures D m) (c .push-node2 .ensures)
-    (join-copied (a .words .now) (a .n) _ _ r (s .pre .2) D (a .d .width) (a .i) (a .j) _ (m .width) (c .before .before .before .before .before .before .before .before .conjunct-count .ensures) (λ q. c .before .before .before .before .if1 .left (c .before .before .before .before .before .operator .ensures ∙ q)) _ (c .before .kind .ensures))
+    grows _ (withCopy D (a .i) (a .j) (nodeAt (a .words .now) (a .n))) (v .moved .ensures D m) (c .push-node2 .ensures)
+    (join-copied (node-read (k .before)) (s .pre .2) D (a .i) (a .j) (m .width) (k .conjunct-count .ensures)
+    (λ q. t .if1 .left (t .before .operator .ensures ∙ q)) (c .before .kind .ensures))
 
 pub with-copy-spec : {M : Type 1} → statement M
 with-copy-spec =

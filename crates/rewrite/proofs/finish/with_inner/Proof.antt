@@ -1,4 +1,4 @@
-use mathlib.Core.Path.{sym, _∙_}
+use mathlib.Core.Path.{_≡_, sym, _∙_}
 use mathlib.Core.List.{List}
 use Prim.Native.Nat.{_+_}
 use native.Mathlib.Omega.{arith}
@@ -8,15 +8,45 @@ use Rattle.plan.specs.Words as words
 use Rattle.plan.specs.Items.{conjunctsIn}
 use Rattle.plan.specs.Plan.{kindOf, nodeAt}
 use Rattle.rewrite.specs.Sets.{members}
-use Rattle.rewrite.specs.Under.{withInner}
+use Rattle.rewrite.specs.Under.{conjunctCount, withInner}
 use Rattle.rewrite.proofs.Laws.Sets.{length-members}
 use Rattle.rewrite.proofs.Laws.Pages.{added-then}
-use Rattle.rewrite.proofs.Laws.Sorted.{read-node, within, movable, all-conjuncts, no-project, no-group, two-inputs, no-groupjoin}
+use Rattle.rewrite.proofs.Laws.Sorted.{Read, read-node, within, movable, all-conjuncts, no-project, no-group, two-inputs, no-groupjoin}
 use Rattle.rewrite.proofs.Laws.Joined.{join-inner, inner-join}
 use Rattle.rewrite.proofs.Laws.Finish.{grows, grows-as, drops}
 use borrow.Author.Needs.{needs}
 use Rattle.rewrite.proofs.finish.with_inner.Statement.{statement}
 use Rattle.rewrite.proofs.finish.with_inner.Tie as tie
+
+-- ---- the keys are counted, the kind and the items are read
+
+abbrev matched : tie.After-item-count → tie.After-set-matches
+matched c = c .before .before .before
+
+abbrev kinded : tie.After-item-count → tie.After-kind
+kinded c = matched c .before .before
+
+abbrev ranked : tie.After-item-count → tie.After-rank
+ranked c = kinded c .before
+
+abbrev start : tie.After-item-count → tie.Start
+start c = ranked c .before .before
+
+node-read : (c : tie.After-item-count)
+    → Read (start c .args .words .now) (start c .args .n) (c .before .first-item .result) (c .item-count .result)
+node-read c = read-node (start c .pre .0) (start c .pre .1) (c .before .first-item .ensures) (c .item-count .ensures)
+
+abbrev items : tie.After-item-count → List words.Item
+items c = words.itemsFrom (start c .args .words .now) (c .before .first-item .result) (c .item-count .result)
+
+all-of : (c : tie.After-item-count) → c .item-count .result ≡ conjunctCount (start c .args .words .now) (start c .args .n)
+all-of c = all-conjuncts (node-read c) (no-groupjoin (start c .pre .2))
+
+-- the node is written
+abbrev read : tie.After-push-node → tie.After-item-count
+read c = c .before .before .before .before
+
+-- ---- the needs
 
 rank-requires : tie.Need-rank-requires
 rank-requires c κs = search needs
@@ -38,10 +68,12 @@ item-count-requires c κs = search needs
 
 moved-requires : tie.Need-moved-requires
 moved-requires c κs =
-    let s = c .before .before .before .before .before .before .before .before in
-    let r = read-node (s .args .words .now) (s .args .n) (s .pre .0) (s .pre .1) (c .before .first-item .ensures) (c .item-count .ensures) in
-    let b = two-inputs (s .pre .2) in
-    (within _ _ _ _ r, search needs, omega (arith, c .before .before .before .before .before .before .rank .ensures .1), movable _ _ _ _ r (no-project b) (no-group b) _ (all-conjuncts _ _ _ _ r (no-groupjoin (s .pre .2))))
+    let two = two-inputs (start c .pre .2) in (
+      within (node-read c),
+      search needs,
+      omega (arith, ranked c .rank .ensures .1),
+      movable (node-read c) (no-project two) (no-group two) (all-of c),
+    )
 
 push-node-requires : tie.Need-push-node-requires
 push-node-requires c κs = search needs
@@ -51,26 +83,29 @@ add-drop-columns c = search needs
 
 drop-columns-requires : tie.Need-drop-columns-requires
 drop-columns-requires c κs =
-    let p = c .before .before .before .before .before .before .before .before .before .before .before .before .before .before .before .pre in
-    let v = c .before .before .before .before .before .before .before .before .before .before .before .before .before .rank .ensures .1 in
+    let i = read (c .before .before .before) in
+    let p = start i .pre in
+    let v = ranked i .rank .ensures .1 in
     (omega arith, omega arith, omega arith)
 
 returns : tie.Need-returns
 returns c =
     λ D m.
-    let s = c .before .before .before .before .before .before .before .before .before .before .before .before .before .before .before .before in
+    let n = c .before .before .before .before in
+    let i = read n in
+    let s = start i in
     let a = s .args in
-    let ws = a .words .now in
     let ks = members (a .set) in
-    let r = read-node ws (a .n) (s .pre .0) (s .pre .1) (c .before .before .before .before .before .before .before .before .before .first-item .ensures) (c .before .before .before .before .before .before .before .before .item-count .ensures) in
-    let b = two-inputs (s .pre .2) in
-    let v = c .before .before .before .before .before .before .before .before .before .before .before .before .before .before .rank .ensures .0 ∙ sym (length-members (a .set)) in
-    let xs : List words.Item = words.itemsFrom ws (c .before .before .before .before .before .before .before .before .before .first-item .result) (c .before .before .before .before .before .before .before .before .item-count .result) in
-    let x = join (kindOf (words.kind ws (a .n))) (underInner D (a .wl) ks (conjunctsIn xs)) (a .i) (a .j) in
-    grows-as _ (withInner D ks (a .wl) (a .wr) (a .i) (a .j) (nodeAt ws (a .n))) (λ out. inner-join ws (a .n) _ _ r b D (a .d .width) (a .wl) (a .wr) (a .i) (a .j) (m .width) out (s .pre .2) _ (c .before .before .before .before .before .before .before .before .before .before .before .before .before .kind .ensures) ks _ v)
-    (drops _ (a .d .width + a .wl) (c .before .before .before .before .before .before .before .before .before .before .before .before .before .before .rank .result) (a .wr) x
-    (grows _ x (added-then _ _ _ _ _ _ _ _ (c .before .before .before .before .before .before .before .before .before .before .before .set-matches .ensures) (c .before .before .before .before .before .before .before .moved .ensures D m)) (c .before .before .before .before .push-node .ensures)
-    (join-inner ws (a .n) _ _ r b D (a .d .width) (a .i) (a .j) _ (m .width) (all-conjuncts _ _ _ _ r (no-groupjoin (s .pre .2))) (a .wl) (no-groupjoin (s .pre .2)) _ (c .before .before .before .before .before .before .before .before .before .before .before .before .before .kind .ensures) ks _ v))
+    let r = node-read i in
+    let two = two-inputs (s .pre .2) in
+    let v = ranked i .rank .ensures .0 ∙ sym (length-members (a .set)) in
+    let k = kinded i .kind .ensures in
+    let x = join (kindOf (words.kind (a .words .now) (a .n))) (underInner D (a .wl) ks (conjunctsIn (items i))) (a .i) (a .j) in
+    grows-as _ (withInner D ks (a .wl) (a .wr) (a .i) (a .j) (nodeAt (a .words .now) (a .n)))
+    (λ out. inner-join r two D (a .wl) (a .wr) (a .i) (a .j) (m .width) out (s .pre .2) k ks v)
+    (drops _ (a .d .width + a .wl) (ranked i .rank .result) (a .wr) x
+    (grows _ x (added-then _ _ (matched i .set-matches .ensures) (n .before .before .before .moved .ensures D m)) (n .push-node .ensures)
+    (join-inner r two D (a .i) (a .j) (m .width) (all-of i) (a .wl) (no-groupjoin (s .pre .2)) k ks v))
     (c .drop-columns .ensures))
 
 pub with-inner-spec : {M : Type 1} → statement M

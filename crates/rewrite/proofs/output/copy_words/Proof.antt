@@ -42,8 +42,12 @@ loop-again : tie.Need-loop-again Inv-loop μ-loop
 loop-again c =
     let a = c .before .before .before .args in
     let l = c .before .before .loop in
-    let p = c .before .before .before .pre in
-    (omega arith, simp length-set (l .inv .1), copy-more (a .out .now) (a .at) (a .from .now) (a .count) (l .i) (l .out) (p .0) (p .1) (omega arith) (l .inv .2))
+    let p = c .before .before .before .pre in (
+      omega arith,
+      simp length-set (l .inv .1),
+      copy-more (a .out .now) (a .at) (a .from .now) (a .count) (l .i) (l .out) (p .0) (p .1) (omega arith)
+          (l .inv .2),
+    )
 
 same-length : tie.Need-same-length Inv-loop μ-loop
 same-length c = c .before .loop .inv .1

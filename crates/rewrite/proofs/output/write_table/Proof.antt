@@ -76,7 +76,8 @@ returns c =
     let second = third .before .before .before .before .before .before .before in
     let first = second .before .before .before .before .before .before in
     let a = first .before .before .before .before .before .before in
-    all-copied (a .args .words .now) (a .args .nodes .now) (a .args .items .now) (a .args .out .now) (a .args .c .nodes) (a .args .c .items) (a .pre .0) (omega arith) _ _ _ _ _ _ _ _ _ _
+    all-copied (a .args .words .now) (a .args .nodes .now) (a .args .items .now) (a .args .out .now) (a .args .c .nodes) (a .args .c .items) (a .pre .0)
+    (omega arith) _ _ _ _ _ _ _ _ _ _
     (first .before .before .before .tables .ensures)
     (second .before .wide .ensures)
     (third .before .before .before .wide2 .ensures)

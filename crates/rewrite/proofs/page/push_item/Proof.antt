@@ -31,7 +31,8 @@ returns-3 : tie.Need-returns-3
 returns-3 c =
     let a = c .before .before .before .before .before .before .args in
     item-written (a .items .now) _ (a .c) _ _ (7 * c .before .wide .result)
-    (c .put-item .ensures) (omega (arith, c .before .wide .ensures)) refl (omega arith) (not-false _ (c .before .before .before .before .if1 .left)) (omega arith) refl refl refl
+    (c .put-item .ensures) (omega (arith, c .before .wide .ensures)) refl (omega arith) (not-false _ (c .before .before .before .before .if1 .left))
+    (omega arith) refl refl refl
 
 pub push-item-spec : {M : Type 1} → statement M
 push-item-spec =

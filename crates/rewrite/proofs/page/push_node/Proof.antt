@@ -20,12 +20,16 @@ new-width-requires c κs = search needs
 returns-2 : tie.Need-returns-2
 returns-2 c =
     let b = c .before .before .before .before in
-    let a = b .before .before .before .args in full-nodes (a .nodes .now) (a .rows .now) (a .c) (a .first) (a .head) (a .extra) _ (not-false _ (b .before .if1 .left)) (c .if2 .taken) refl
+    let a = b .before .before .before .args in
+    full-nodes (a .nodes .now) (a .rows .now) (a .c) (a .first) (a .head) (a .extra) _
+    (not-false _ (b .before .if1 .left)) (c .if2 .taken) refl
 
 returns-3 : tie.Need-returns-3
 returns-3 c =
     let b = c .before .before .before .before .before in
-    let a = b .before .before .before .args in wide-node (a .nodes .now) (a .rows .now) (a .c) (a .first) (a .head) (a .extra) _ (not-false _ (b .before .if1 .left)) _ (rw (b .items-from .ensures) at (c .before .before .new-width .ensures)) (c .if3 .taken) refl
+    let a = b .before .before .before .args in
+    wide-node (a .nodes .now) (a .rows .now) (a .c) (a .first) (a .head) (a .extra) _ (not-false _ (b .before .if1 .left)) _
+    (rw (b .items-from .ensures) at (c .before .before .new-width .ensures)) (c .if3 .taken) refl
 
 wide-requires : tie.Need-wide-requires
 wide-requires c κs = search needs
@@ -55,8 +59,10 @@ returns-4 : tie.Need-returns-4
 returns-4 c =
     let b = c .before .before .before .before .before .before .before .before .before in
     let a = b .before .before .before .args in
-    node-written (a .nodes .now) (a .rows .now) (a .c) (a .first) (a .head) (a .extra) _ (not-false _ (b .before .if1 .left)) _ (rw (b .items-from .ensures) at (c .before .before .before .before .before .before .new-width .ensures)) _ _ (6 * c .before .before .wide .result)
-    (rw (b .items-from .ensures) at (c .before .put-node .ensures)) (omega (arith, c .before .before .wide .ensures)) (omega arith) (cc) (omega arith) (omega arith) (omega arith) refl refl refl
+    node-written (a .nodes .now) (a .rows .now) (a .c) (a .first) (a .head) (a .extra) _ (not-false _ (b .before .if1 .left)) _
+    (rw (b .items-from .ensures) at (c .before .before .before .before .before .before .new-width .ensures)) _ _ (6 * c .before .before .wide .result)
+    (rw (b .items-from .ensures) at (c .before .put-node .ensures)) (omega (arith, c .before .before .wide .ensures))
+    (omega arith) (cc) (omega arith) (omega arith) (omega arith) refl refl refl
 
 pub push-node-spec : {M : Type 1} → statement M
 push-node-spec =

@@ -27,7 +27,8 @@ element-copy-out-rank : tie.Need-element-copy-out-rank
 element-copy-out-rank c =
     let o = c .before .before .before in
     let s = o .before .before in
-    right-index (s .args .words .now) (s .pre .0) (s .args .n) (s .pre .1) (o .operator .ensures) (c .before .before .if1 .left) (c .before .right .ensures) (c .wide .ensures)
+    right-index (s .args .words .now) (s .pre .0) (s .args .n) (s .pre .1) (o .operator .ensures) (c .before .before .if1 .left)
+    (c .before .right .ensures) (c .wide .ensures)
 
 rank-requires : tie.Need-rank-requires
 rank-requires c κs = search needs
@@ -37,7 +38,8 @@ returns-2 c =
     let w = c .before .before in
     let o = w .before .before .before in
     let s = o .before .before in
-    left-read (s .args .words .now) (s .pre .0) (s .args .n) (s .pre .1) (o .operator .ensures) (w .before .before .if1 .left) (w .before .right .ensures) (w .wide .ensures)
+    left-read (s .args .words .now) (s .pre .0) (s .args .n) (s .pre .1) (o .operator .ensures) (w .before .before .if1 .left) (w .before .right .ensures)
+    (w .wide .ensures)
     (s .args .reads .now) (s .pre .2) (c .rank .ensures .0)
 
 pub reads-left-spec : {M : Type 1} → statement M

@@ -74,8 +74,12 @@ loop-again c =
     let w = c .before .before in
     let l = w .before .before .before .before .before in
     let s = l .before in
-    let a = s .args in
-    (omega arith, levels-more (a .table .now) (a .n) (a .i) (a .skip) (l .loop .l) (s .pre .0) (s .pre .1) (s .pre .3) (l .loop .inv .1) (w .before .before .before .before .loop-test .taken) (w .before .before .before .wide .ensures) (w .before .before .wide2 .ensures) (w .wide3 .ensures) (c .before .wide4 .ensures))
+    let a = s .args in (
+      omega arith,
+      levels-more (a .table .now) (a .n) (a .i) (a .skip) (l .loop .l) (s .pre .0) (s .pre .1) (s .pre .3) (l .loop .inv .1)
+          (w .before .before .before .before .loop-test .taken)
+          (w .before .before .before .wide .ensures) (w .before .before .wide2 .ensures) (w .wide3 .ensures) (c .before .wide4 .ensures),
+    )
 
 returns : tie.Need-returns Inv-loop μ-loop
 returns c =

@@ -56,20 +56,24 @@ returns-2 c =
     let i = c .before .before .before .before .before .before in
     let s = i .before .before .before .before .before in
     let a = s .args in
-    term-outer (a .words .now) (a .j) (a .k) (a .n) (a .table .now) (i .before .before .before .item-word .ensures) (i .before .item-word2 .ensures) (i .item-word3 .ensures)
-    (i .before .before .if1 .left) (s .pre .0) (c .before .before .before .before .before .if2 .taken) (s .pre .2) (c .before .before .before .wide .ensures) (c .before .before .wide2 .ensures) (c .with .ensures)
+    term-outer (a .words .now) (a .j) (a .k) (a .n) (a .table .now) (i .before .before .before .item-word .ensures)
+    (i .before .item-word2 .ensures) (i .item-word3 .ensures)
+    (i .before .before .if1 .left) (s .pre .0) (c .before .before .before .before .before .if2 .taken) (s .pre .2)
+    (c .before .before .before .wide .ensures) (c .before .before .wide2 .ensures) (c .with .ensures)
 
 returns-3 : tie.Need-returns-3
 returns-3 c =
     let i = c .before .before in
     let a = i .before .before .before .before .before .args in
-    term-wide (a .words .now) (a .j) (a .k) (a .n) (a .table .now) (i .before .before .before .item-word .ensures) (i .before .item-word2 .ensures) (i .item-word3 .ensures) (c .if3 .left)
+    term-wide (a .words .now) (a .j) (a .k) (a .n) (a .table .now) (i .before .before .before .item-word .ensures)
+    (i .before .item-word2 .ensures) (i .item-word3 .ensures) (c .if3 .left)
 
 returns-4 : tie.Need-returns-4
 returns-4 c =
     let i = c .before in
     let a = i .before .before .before .before .before .args in
-    term-far (a .words .now) (a .j) (a .k) (a .n) (a .table .now) (i .before .before .before .item-word .ensures) (i .before .item-word2 .ensures) (i .item-word3 .ensures) (c .if2 .left)
+    term-far (a .words .now) (a .j) (a .k) (a .n) (a .table .now) (i .before .before .before .item-word .ensures)
+    (i .before .item-word2 .ensures) (i .item-word3 .ensures) (c .if2 .left)
 
 pub add-term-spec : {M : Type 1} → statement M
 add-term-spec =

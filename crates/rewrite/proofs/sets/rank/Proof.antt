@@ -15,8 +15,9 @@ rem-result c = shifted-pos _ (c .if1 .taken)
 
 returns : tie.Need-returns
 returns c =
-    let e = ap (λ (m : ℕ). ones (c .before .args .s % m)) (shifted (c .before .args .p) (c .if1 .taken)) ∙ ones-rank (c .before .args .s) (c .before .args .p) in
-    (e, omega (arith, e, rank-le (c .before .args .s) (c .before .args .p)))
+    let a = c .before .args in
+    let e = ap (λ (m : ℕ). ones (a .s % m)) (shifted (a .p) (c .if1 .taken)) ∙ ones-rank (a .s) (a .p) in
+    (e, omega (arith, e, rank-le (a .s) (a .p)))
 
 returns-2 : tie.Need-returns-2
 returns-2 c =

@@ -1,5 +1,5 @@
 use mathlib.Core.Path.{_≡_, refl, _∙_, ap, sym}
-use mathlib.Core.Bool.{false}
+use mathlib.Core.Bool.{true, false}
 use mathlib.Core.Logic.{⊎-elim}
 use mathlib.Core.List.{List}
 use Prim.Native.Nat.{ℕ, _<_}
@@ -16,7 +16,7 @@ use Rattle.rewrite.specs.Sets.{members}
 use Rattle.rewrite.specs.Reads.{readsAt}
 use Rattle.rewrite.proofs.Laws.Domains.{inner-domain}
 use Rattle.rewrite.proofs.Laws.Limits.{node-index}
-use Rattle.rewrite.proofs.Laws.Put.{inner-sound, is-closed, is-open, width-few, width-is}
+use Rattle.rewrite.proofs.Laws.Put.{inner-sound, is-closed, is-open, width-is}
 use Rattle.rewrite.proofs.Laws.Closed.{keys-are, domain-over, inner-closes, copy-closes}
 use borrow.Author.Needs.{needs}
 use Rattle.rewrite.proofs.steps.closed_node.Statement.{statement}
@@ -30,59 +30,126 @@ start c = c .before .before .before .before .before
 abbrev ws : tie.After-right → List ℕ
 ws c = start c .args .words .now
 
+abbrev left-of : tie.After-right → ℕ
+left-of c = left (ws c) (start c .args .n)
+
+abbrev right-of : tie.After-right → ℕ
+right-of c = right (ws c) (start c .args .n)
+
 eight : (c : tie.After-right) → operator (ws c) (start c .args .n) ≡ 8
 eight c = sym (c .before .before .before .operator .ensures) ∙ c .before .before .if1 .taken
 
 -- the inputs are nodes of the plan
-there-left : (c : tie.After-right) → left (ws c) (start c .args .n) < nodes (ws c)
+there-left : (c : tie.After-right) → left-of c < nodes (ws c)
 there-left c = dependent-left (ws c) (start c .pre .0 .formed) (start c .args .n) (start c .pre .1) (eight c)
 
-there-right : (c : tie.After-right) → right (ws c) (start c .args .n) < nodes (ws c)
+there-right : (c : tie.After-right) → right-of c < nodes (ws c)
 there-right c = dependent-right (ws c) (start c .pre .0 .formed) (start c .args .n) (start c .pre .1) (eight c)
 
 -- they have their places in the tables
 low-left : (c : tie.After-right) → c .before .left .result < 256
-low-left c = node-index (ws c) (start c .pre .0) _ (there-left c) (c .before .left .ensures)
+low-left c = node-index (start c .pre .0) (there-left c) (c .before .left .ensures)
 
 low-right : (c : tie.After-right) → c .right .result < 256
-low-right c = node-index (ws c) (start c .pre .0) _ (there-right c) (c .right .ensures)
+low-right c = node-index (start c .pre .0) (there-right c) (c .right .ensures)
 
 -- ---- where the right side is open
 
 abbrev inputs : tie.Then2 → tie.After-right
 inputs c = c .before .before .before
 
-open-right : (c : tie.Then2) → closed (shapeAt (widthsOf (ws (inputs c))) (nodesOf (ws (inputs c))) (right (ws (inputs c)) (start (inputs c) .args .n))) ≡ false
+open-right : (c : tie.Then2)
+    → closed (shapeAt (widthsOf (ws (inputs c))) (nodesOf (ws (inputs c))) (right-of (inputs c))) ≡ false
 open-right c =
     let r = inputs c in
-    is-open (ws r) (start r .args .reaches .now) (start r .pre .3) _ (there-right r) (c .before .before .wide .ensures ∙ r .right .ensures) (λ e. omega (arith, e, c .if2 .taken))
+    is-open (ws r) (start r .args .reaches .now) (start r .pre .3) (there-right r) (c .before .before .wide .ensures ∙ r .right .ensures)
+    (λ e. omega (arith, e, c .if2 .taken))
 
 -- the set of the keys is there
+abbrev chosen : tie.After-key-set → tie.Then2
+chosen c = c .before .before .before .before
+
 abbrev opened : tie.After-key-set → tie.After-right
-opened c = inputs (c .before .before .before .before)
+opened c = inputs (chosen c)
 
 keys : (c : tie.After-key-set)
-    → members (c .key-set .result) ≡ domainKeys outside (widthAt (ws (opened c)) (left (ws (opened c)) (start (opened c) .args .n))) (readsAt (ws (opened c)) (right (ws (opened c)) (start (opened c) .args .n)))
+    → members (c .key-set .result)
+    ≡ domainKeys outside (widthAt (ws (opened c)) (left-of (opened c))) (readsAt (ws (opened c)) (right-of (opened c)))
 keys c =
     let r = opened c in
     let s = start r in
-    keys-are (ws r) (s .pre .0) (s .args .n) (s .pre .1) (eight r) (s .pre .2) (open-right (c .before .before .before .before)) (s .args .reads .now) (c .key-set .result) _ (c .before .outside .ensures) (s .pre .5) (r .right .ensures) (c .key-set .ensures)
+    keys-are (s .pre .0) (s .pre .1) (eight r) (s .pre .2) (open-right (chosen c)) (s .args .reads .now) (c .key-set .result)
+    (c .before .outside .ensures) (s .pre .5) (r .right .ensures) (c .key-set .ensures)
 
 -- where the left side stands
-image : (c : tie.After-key-set)
-    → getD (start (opened c) .args .images .now) (c .before .before .before .wide2 .result) 0 ≡ getD (start (opened c) .args .images .now) (left (ws (opened c)) (start (opened c) .args .n)) 0
-image c = ap (λ (k : ℕ). getD (start (opened c) .args .images .now) k 0) (c .before .before .before .wide2 .ensures ∙ opened c .before .left .ensures)
+abbrev image-at : tie.After-key-set → ℕ → ℕ
+image-at c k = getD (start (opened c) .args .images .now) k 0
+
+image : (c : tie.After-key-set) → image-at c (c .before .before .before .wide2 .result) ≡ image-at c (left-of (opened c))
+image c = ap (image-at c) (c .before .before .before .wide2 .ensures ∙ opened c .before .left .ensures)
 
 -- the domain is written
 abbrev keyed : tie.After-struct-known → tie.After-key-set
 keyed c = c .before .before .before .before .before
 
 -- the right side is put under it
+abbrev new : tie.After-put → tie.After-inner
+new c = c .before .before .before .before
+
+abbrev fits : tie.After-put → tie.Else3
+fits c = new c .before .before
+
 abbrev domained : tie.After-put → tie.After-struct-known
-domained c = c .before .before .before .before .before .before .before
+domained c = fits c .before
 
 abbrev sides : tie.After-put → tie.After-right
 sides c = opened (keyed (domained c))
+
+-- ---- the widths of both sides are read
+
+abbrev right-wide : tie.After-last2 → tie.After-wide4
+right-wide c = c .before .before
+
+abbrev left-wide : tie.After-last2 → tie.After-wide3
+left-wide c = right-wide c .before .before
+
+abbrev under : tie.After-last2 → tie.After-put
+under c = left-wide c .before
+
+abbrev both : tie.After-last2 → tie.After-right
+both c = sides (under c)
+
+left-width : (c : tie.After-last2)
+    → getD (start (both c) .args .widths .now) (left-wide c .wide3 .result) 0 ≡ widthAt (ws (both c)) (left-of (both c))
+left-width c =
+    let r = both c in
+    let s = start r in
+    width-is (s .pre .0) (there-left r) (s .args .widths .now) (s .pre .4) (r .before .left .ensures) (left-wide c .wide3 .ensures)
+
+right-width : (c : tie.After-last2)
+    → getD (start (both c) .args .widths .now) (right-wide c .wide4 .result) 0 ≡ widthAt (ws (both c)) (right-of (both c))
+right-width c =
+    let r = both c in
+    let s = start r in
+    width-is (s .pre .0) (there-right r) (s .args .widths .now) (s .pre .4) (r .right .ensures) (right-wide c .wide4 .ensures)
+
+-- ---- where there is no dependent join, or its right side is closed
+
+abbrev begin : tie.Joined1 → tie.Start
+begin c = c .before .before .before
+
+closed-right : (c : tie.Joined1) → operator (begin c .args .words .now) (begin c .args .n) ≡ 8
+    → closed
+    (shapeAt (widthsOf (begin c .args .words .now)) (nodesOf (begin c .args .words .now)) (right (begin c .args .words .now) (begin c .args .n)))
+    ≡ true
+closed-right c e =
+    let s = begin c in
+    let below = dependent-right (s .args .words .now) (s .pre .0 .formed) (s .args .n) (s .pre .1) e in
+    ⊎-elim
+    (λ w.
+    is-closed (s .args .words .now) (s .args .reaches .now) (s .pre .3) below (w .3 .ensures ∙ w .2 .ensures) (omega (arith, w .5 .left)))
+    (λ w. absurd (w .left (c .before .operator .ensures ∙ e)))
+    (c .if1 .came)
 
 -- ---- the needs
 
@@ -127,8 +194,8 @@ returns c =
     let k = keyed (c .before) in
     let r = opened k in
     let s = start r in
-    domain-over (ws r) (s .pre .0) (s .args .n) (s .pre .1) (eight r) (s .pre .2) (open-right (k .before .before .before .before)) (s .args .images .now) (members (k .key-set .result)) (keys k) _ (image k)
-    (c .before .before .domain-node .ensures) (not-true _ (c .if3 .taken))
+    domain-over (s .pre .0) (s .pre .1) (eight r) (s .pre .2) (open-right (chosen k)) (s .args .images .now) (members (k .key-set .result))
+    (keys k) (image k) (c .before .before .domain-node .ensures) (not-true _ (c .if3 .taken))
 
 last-requires : tie.Need-last-requires
 last-requires c κs = search needs
@@ -138,10 +205,17 @@ inner-requires c κs = search needs
 
 put-requires : tie.Need-put-requires
 put-requires c κs =
-    let k = keyed (c .before .before .before .before .before .before) in
+    let n = c .before .before .before in
+    let k = keyed (n .before .before .before) in
     let r = opened k in
-    let s = start r in
-    (s .pre .0, rw (r .right .ensures) (there-right r), inner-sound (c .before .before .before .inner .ensures) (omega (arith, k .key-set .ok)), s .pre .3, s .pre .4, s .pre .5)
+    let s = start r in (
+      s .pre .0,
+      rw (r .right .ensures) (there-right r),
+      inner-sound (n .inner .ensures) (omega (arith, k .key-set .ok)),
+      s .pre .3,
+      s .pre .4,
+      s .pre .5,
+    )
 
 wide-requires-3 : tie.Need-wide-requires-3
 wide-requires-3 c κs = search needs
@@ -166,43 +240,37 @@ last-requires-2 c κs = search needs
 
 with-inner-requires : tie.Need-with-inner-requires
 with-inner-requires c κs =
-    let p = c .before .before .before .before .before .before .before .before in
-    let r = sides p in
+    let w = c .before .before .before in
+    let r = both w in
     let s = start r in (
       s .pre .0,
       s .pre .1,
       eight r,
-      keyed (domained p) .before .outside .ensures .narrow,
-      width-few (ws r) (s .pre .0) (s .args .widths .now) (s .pre .4) _ (there-left r) (r .before .left .ensures) (c .before .before .before .before .before .before .before .wide3 .ensures),
-      width-few (ws r) (s .pre .0) (s .args .widths .now) (s .pre .4) _ (there-right r) (r .right .ensures) (c .before .before .before .before .before .wide4 .ensures),
+      keyed (domained (under w)) .before .outside .ensures .narrow,
+      rw (left-width w) (s .pre .0 .narrow _ (there-left r)),
+      rw (right-width w) (s .pre .0 .narrow _ (there-right r)),
     )
 
 returns-2 : tie.Need-returns-2
 returns-2 c =
-    let p = c .before .before .before .before .before .before .before .before .before in
+    let w = c .before .before .before .before in
+    let p = under w in
     let k = keyed (domained p) in
-    let r = sides p in
+    let r = both w in
     let s = start r in
     let d = k .before .outside .ensures in
-    inner-closes (ws r) (s .pre .0) (s .args .n) (s .pre .1) (eight r) (s .pre .2) (open-right (k .before .before .before .before)) (s .args .images .now) (members (k .key-set .result)) (keys k) _ (image k)
-    (domained p .before .domain-node .ensures) (not-false _ (p .before .before .before .before .before .before .if3 .left)) _ (p .before .before .before .before .before .last .ensures)
-    (inner-domain (widthAt (ws r) (left (ws r) (s .args .n))) (readsAt (ws r) (right (ws r) (s .args .n))) (p .before .before .before .before .inner .ensures) d (sym (keys k)) (omega (arith, k .key-set .ok)))
-    _ (r .right .ensures) (p .put .ensures) _ _ _
-    (width-is (ws r) (s .pre .0) (s .args .widths .now) (s .pre .4) _ (there-left r) (r .before .left .ensures) (c .before .before .before .before .before .before .before .before .wide3 .ensures)) (width-is (ws r) (s .pre .0) (s .args .widths .now) (s .pre .4) _ (there-right r) (r .right .ensures) (c .before .before .before .before .before .before .wide4 .ensures))
-    (c .before .before .before .before .last2 .ensures) (c .with-inner .ensures outside d)
+    inner-closes (s .pre .0) (s .pre .1) (eight r) (s .pre .2) (open-right (chosen k)) (s .args .images .now) (members (k .key-set .result))
+    (keys k) (image k) (domained p .before .domain-node .ensures) (not-false _ (fits p .if3 .left)) (new p .before .last .ensures)
+    (inner-domain (widthAt (ws r) (left-of r)) (readsAt (ws r) (right-of r)) (new p .inner .ensures) d (sym (keys k)) (omega (arith, k .key-set .ok)))
+    (r .right .ensures) (p .put .ensures) (left-width w) (right-width w) (w .last2 .ensures) (c .with-inner .ensures outside d)
 
 copy-node-requires : tie.Need-copy-node-requires
 copy-node-requires c κs = search needs
 
 returns-3 : tie.Need-returns-3
 returns-3 c =
-    let p = c .before .before .before .before .before in
-    let s = p .before .before in
-    copy-closes (s .args .words .now) (s .pre .0) (s .args .n) (s .pre .1) _
-    (λ e.
-    ⊎-elim (λ w. is-closed (s .args .words .now) (s .args .reaches .now) (s .pre .3) _ (dependent-right (s .args .words .now) (s .pre .0 .formed) (s .args .n) (s .pre .1) e) (w .3 .ensures ∙ w .2 .ensures) (omega (arith, w .5 .left)))
-    (λ w. absurd (w .left (p .operator .ensures ∙ e))) (c .before .before .before .before .if1 .came))
-    (c .copy-node .ensures) refl
+    let j = c .before .before .before .before in
+    copy-closes (begin j .pre .0) (begin j .pre .1) _ (closed-right j) (c .copy-node .ensures) refl
 
 pub closed-node-spec : {M : Type 1} → statement M
 closed-node-spec =

@@ -25,12 +25,14 @@ small : (c : tie.After-copied) (i : ℕ) → getD (ws c) i 0 < 2 ^ 32
 small c i = omega (arith, c .before .before .before .before .before .before .shared-slice-known .given i)
 
 -- the inputs have images
-left-low : (c : tie.After-copied) → (c .before .before .before .before .before .operator .result ≡ 1 → ⊥) → c .before .before .before .before .left .result < 256
+left-low : (c : tie.After-copied) → (c .before .before .before .before .before .operator .result ≡ 1 → ⊥)
+    → c .before .before .before .before .left .result < 256
 left-low c =
     left-few (ws c) (start c .pre .0) (start c .args .n) (start c .pre .1) _ _
     (c .before .before .before .before .before .operator .ensures) (c .before .before .before .before .left .ensures)
 
-right-low : (c : tie.After-copied) {r : ℕ} → r ≡ right (ws c) (start c .args .n) → hasRight (c .before .before .before .before .before .operator .result) ≡ true → r < 256
+right-low : (c : tie.After-copied) {r : ℕ} → r ≡ right (ws c) (start c .args .n)
+    → hasRight (c .before .before .before .before .before .operator .result) ≡ true → r < 256
 right-low c = right-few (ws c) (start c .pre .0) (start c .args .n) (start c .pre .1) _ _ (c .before .before .before .before .before .operator .ensures)
 
 -- ---- the needs
@@ -50,7 +52,7 @@ item-count-requires c κs = search needs
 copied-requires : tie.Need-copied-requires
 copied-requires c κs =
     let s = c .before .before .before .before .before .before in
-    items-within (s .args .words .now) (s .pre .0) (s .args .n) (s .pre .1) (c .before .before .first-item .ensures) (c .before .item-count .ensures)
+    items-within (s .pre .0) (s .pre .1) (c .before .before .first-item .ensures) (c .before .item-count .ensures)
 
 table-width-requires : tie.Need-table-width-requires
 table-width-requires c κs = search needs
@@ -86,7 +88,7 @@ count-tagged-requires : tie.Need-count-tagged-requires
 count-tagged-requires c κs =
     let p = c .before .before .before .before .before .before in
     let s = start p in
-    items-within (ws p) (s .pre .0) (s .args .n) (s .pre .1) (p .before .before .before .first-item .ensures) (p .before .before .item-count .ensures)
+    items-within (s .pre .0) (s .pre .1) (p .before .before .before .first-item .ensures) (p .before .before .item-count .ensures)
 
 push-node-requires-3 : tie.Need-push-node-requires-3
 push-node-requires-3 c κs = search needs
@@ -103,7 +105,8 @@ returns c =
     let s = start p in
     let q = p .before .before in
     copied-scan (ws p) (s .pre .0) (s .args .n) (s .pre .1) (small p) (λ i. getD (s .args .images .now) i 0) _ _ _ _
-    (q .before .before .before .operator .ensures) (q .before .before .left .ensures) (q .before .first-item .ensures) (q .item-count .ensures) (p .copied .ensures)
+    (q .before .before .before .operator .ensures) (q .before .before .left .ensures) (q .before .first-item .ensures) (q .item-count .ensures)
+    (p .copied .ensures)
     _ (c .before .before .before .before .match .keys1) (c .before .table-width .ensures) (c .push-node .ensures)
 
 returns-2 : tie.Need-returns-2
@@ -112,9 +115,11 @@ returns-2 c =
     let s = start p in
     let q = p .before .before in
     copied-join (ws p) (s .pre .0) (s .args .n) (s .pre .1) (small p) (λ i. getD (s .args .images .now) i 0) _ _ _ _
-    (q .before .before .before .operator .ensures) (q .before .before .left .ensures) (q .before .first-item .ensures) (q .item-count .ensures) (p .copied .ensures)
+    (q .before .before .before .operator .ensures) (q .before .before .left .ensures) (q .before .first-item .ensures) (q .item-count .ensures)
+    (p .copied .ensures)
     _ _ _ _ _ (c .before .before .before .before .before .before .before .match .keys2)
-    (c .before .before .before .before .image .ensures) (c .before .before .before .right .ensures) (c .before .before .image2 .ensures) (c .before .kind .ensures) (c .push-node2 .ensures) refl
+    (c .before .before .before .before .image .ensures) (c .before .before .before .right .ensures) (c .before .before .image2 .ensures)
+    (c .before .kind .ensures) (c .push-node2 .ensures) refl
 
 returns-3 : tie.Need-returns-3
 returns-3 c =
@@ -122,9 +127,11 @@ returns-3 c =
     let s = start p in
     let q = p .before .before in
     copied-groupjoin (ws p) (s .pre .0) (s .args .n) (s .pre .1) (small p) (λ i. getD (s .args .images .now) i 0) _ _ _ _
-    (q .before .before .before .operator .ensures) (q .before .before .left .ensures) (q .before .first-item .ensures) (q .item-count .ensures) (p .copied .ensures)
+    (q .before .before .before .operator .ensures) (q .before .before .left .ensures) (q .before .first-item .ensures) (q .item-count .ensures)
+    (p .copied .ensures)
     _ _ _ _ (c .before .before .before .before .before .before .before .match .keys3)
-    (c .before .before .before .before .image3 .ensures) (c .before .before .before .right2 .ensures) (c .before .before .image4 .ensures) (c .before .count-tagged .ensures) (c .push-node3 .ensures)
+    (c .before .before .before .before .image3 .ensures) (c .before .before .before .right2 .ensures) (c .before .before .image4 .ensures)
+    (c .before .count-tagged .ensures) (c .push-node3 .ensures)
 
 returns-4 : tie.Need-returns-4
 returns-4 c =
@@ -132,7 +139,8 @@ returns-4 c =
     let s = start p in
     let q = p .before .before in
     copied-other (ws p) (s .pre .0) (s .args .n) (s .pre .1) (small p) (λ i. getD (s .args .images .now) i 0) _ _ _ _
-    (q .before .before .before .operator .ensures) (q .before .before .left .ensures) (q .before .first-item .ensures) (q .item-count .ensures) (p .copied .ensures)
+    (q .before .before .before .operator .ensures) (q .before .before .left .ensures) (q .before .first-item .ensures) (q .item-count .ensures)
+    (p .copied .ensures)
     _ (c .before .before .before .before .match .rest) (c .before .image5 .ensures) (c .push-node4 .ensures)
 
 pub copy-node-spec : {M : Type 1} → statement M

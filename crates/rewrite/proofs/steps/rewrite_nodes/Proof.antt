@@ -12,7 +12,8 @@ use Rattle.rewrite.proofs.steps.rewrite_nodes.Statement.{statement}
 use Rattle.rewrite.proofs.steps.rewrite_nodes.Tie as tie
 
 abbrev Inv-loop : tie.InvT-loop
-Inv-loop words reaches widths reads nodes₀ items₀ rows₀ images₀ c₀ count n₀ nodes items rows images c n = (n ≤ count) × Stepped words nodes items rows images c n
+Inv-loop words reaches widths reads nodes₀ items₀ rows₀ images₀ c₀ count n₀ nodes items rows images c n =
+    (n ≤ count) × Stepped words nodes items rows images c n
 
 abbrev μ-loop : tie.MeasureT-loop
 μ-loop words reaches widths reads nodes₀ items₀ rows₀ images₀ c₀ count n₀ nodes items rows images c n = count - n
@@ -31,7 +32,7 @@ low : (c : Turn) → c .before .loop .n < nodes (ws c)
 low c = rw (← c .before .before .nodes .ensures) (c .loop-test .taken)
 
 few : (c : Turn) (i : ℕ) → i ≡ c .before .loop .n → i < 256
-few c i e = node-index (ws c) (start c .pre .0) _ (low c) e
+few c i e = node-index (start c .pre .0) (low c) e
 
 nodes-requires : tie.Need-nodes-requires Inv-loop μ-loop
 nodes-requires c κs = search needs
@@ -52,7 +53,9 @@ closed-node-requires : tie.Need-closed-node-requires Inv-loop μ-loop
 closed-node-requires c κs =
     let t = c .before .before .before .before .before .before .before in
     let s = start t in
-    (s .pre .0, low t, is-closed (ws t) (s .args .reaches .now) (s .pre .1) _ (low t) (c .before .before .before .before .before .before .wide .ensures) (c .before .before .before .before .if1 .taken), s .pre .1, s .pre .2, s .pre .3)
+    let i = c .before .before .before .before in
+    let shut = is-closed (ws t) (s .args .reaches .now) (s .pre .1) (low t) (i .before .before .wide .ensures) (i .if1 .taken) in
+    (s .pre .0, low t, shut, s .pre .1, s .pre .2, s .pre .3)
 
 last-requires : tie.Need-last-requires Inv-loop μ-loop
 last-requires c κs = search needs
@@ -80,16 +83,21 @@ loop-again c =
       omega arith,
       ⊎-elim
           (λ w.
-          stepped-closed (ws t) (s .pre .0) _ (low t) (is-closed (ws t) (s .args .reaches .now) (s .pre .1) _ (low t) (c .before .before .wide .ensures) (w .0 .taken)) _ _ before (w .5 .ensures) (w .6 .ensures) (w .7 .ensures) (few t _ refl)
+          stepped-closed (ws t) (s .pre .0) _ (low t)
+          (is-closed (ws t) (s .args .reaches .now) (s .pre .1) (low t) (c .before .before .wide .ensures) (w .0 .taken)) _ _ before
+          (w .5 .ensures) (w .6 .ensures) (w .7 .ensures) (few t _ refl)
           (w .8) (w .9) (w .10) (w .11) (w .12))
           (λ w.
-          stepped-open (ws t) (s .pre .0) _ (low t) (is-open (ws t) (s .args .reaches .now) (s .pre .1) _ (low t) (c .before .before .wide .ensures) (w .0 .left)) before
+          stepped-open (ws t) (s .pre .0) _ (low t)
+          (is-open (ws t) (s .args .reaches .now) (s .pre .1) (low t) (c .before .before .wide .ensures) (w .0 .left)) before
           (w .1) (w .2) (w .3) (w .4) (w .5))
           (c .if1 .came),
     )
 
 returns : tie.Need-returns Inv-loop μ-loop
-returns c = stepped-all (c .before .loop .n) (c .before .before .nodes .result) (c .before .loop .inv .1) (c .before .before .nodes .ensures) (c .before .loop .inv .0) (c .loop-test .left)
+returns c =
+    stepped-all (c .before .loop .n) (c .before .before .nodes .result) (c .before .loop .inv .1)
+    (c .before .before .nodes .ensures) (c .before .loop .inv .0) (c .loop-test .left)
 
 pub rewrite-nodes-spec : {M : Type 1} → statement M
 rewrite-nodes-spec =

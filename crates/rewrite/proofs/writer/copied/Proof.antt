@@ -44,11 +44,17 @@ loop-less c = search needs
 loop-again : tie.Need-loop-again Inv-loop μ-loop
 loop-again c =
     let l = c .before .before .before .before .before .before in
-    let s = l .before .before .args in
-    (search needs, step (λ k. itemWords (itemAt (s .words .now) (s .a + k))) (l .loop .i) _ (copied-words (s .words .now) _ _ _ _ (c .before .before .before .tag .ensures) (c .before .before .three .ensures) (c .before .three2 .ensures)) (l .loop .inv .1) (c .push-item .ensures))
+    let s = l .before .before .args in (
+      search needs,
+      step (λ k. itemWords (itemAt (s .words .now) (s .a + k))) (l .loop .i) _
+          (copied-words (s .words .now) _ _ _ _ (c .before .before .before .tag .ensures) (c .before .before .three .ensures) (c .before .three2 .ensures))
+          (l .loop .inv .1) (c .push-item .ensures),
+    )
 
 returns : tie.Need-returns Inv-loop μ-loop
-returns c = copied-end (c .before .before .before .args .words .now) _ (c .before .loop .i) (c .before .before .before .args .count) (c .before .loop .inv .1) (omega arith) (omega arith)
+returns c =
+    let a = c .before .before .before .args in
+    copied-end (a .words .now) _ (c .before .loop .i) (a .count) (c .before .loop .inv .1) (omega arith) (omega arith)
 
 pub copied-spec : {M : Type 1} → statement M
 copied-spec =

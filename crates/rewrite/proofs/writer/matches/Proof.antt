@@ -37,8 +37,11 @@ loop-less : tie.Need-loop-less Inv-loop μ-loop
 loop-less c = search needs
 
 loop-again : tie.Need-loop-again Inv-loop μ-loop
-loop-again c =
-    (search needs, step (λ q. locals 7 q (_ + q)) _ _ (local-words 7 _ _ _ _ (c .before .before .local .ensures) (c .before .local2 .ensures)) (c .before .before .before .before .before .loop .inv .1) (c .push-item .ensures))
+loop-again c = (
+  search needs,
+  step (λ q. locals 7 q (_ + q)) _ _ (local-words 7 _ _ _ _ (c .before .before .local .ensures) (c .before .local2 .ensures))
+      (c .before .before .before .before .before .loop .inv .1) (c .push-item .ensures),
+)
 
 returns : tie.Need-returns Inv-loop μ-loop
 returns c = matches-end _ (c .before .loop .i) (c .before .before .args .d) (c .before .loop .inv .1) (omega arith) (omega arith)

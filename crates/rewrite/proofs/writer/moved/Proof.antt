@@ -16,7 +16,10 @@ use Rattle.rewrite.proofs.writer.moved.Statement.{statement}
 use Rattle.rewrite.proofs.writer.moved.Tie as tie
 
 abbrev Inv-loop : tie.InvT-loop
-Inv-loop words items₀ a count d w x y c₀ i₀ items c i = (i ≤ count) × ((D : algebra.Domain) → Means d D → Added items₀ items c₀ c (map (λ k. movedWords D (algebra.shiftBoth w x y) (itemAt words (a + k))) (upto i)))
+Inv-loop words items₀ a count d w x y c₀ i₀ items c i =
+    (i ≤ count)
+    × ((D : algebra.Domain) → Means d D
+    → Added items₀ items c₀ c (map (λ k. movedWords D (algebra.shiftBoth w x y) (itemAt words (a + k))) (upto i)))
 
 abbrev μ-loop : tie.MeasureT-loop
 μ-loop words items₀ a count d w x y c₀ i₀ items c i = count - i
@@ -41,13 +44,18 @@ loop-less c = search needs
 loop-again : tie.Need-loop-again Inv-loop μ-loop
 loop-again c =
     let l = c .before .before .before in
-    let s = l .before .before .args in
-    (search needs, λ D m. step (λ k. movedWords D (algebra.shiftBoth (s .w) (s .x) (s .y)) (itemAt (s .words .now) (s .a + k))) (l .loop .i) _ refl (l .loop .inv .1 D m) (c .moved-item .ensures D m))
+    let s = l .before .before .args in (
+      search needs,
+      λ D m.
+          step (λ k. movedWords D (algebra.shiftBoth (s .w) (s .x) (s .y)) (itemAt (s .words .now) (s .a + k))) (l .loop .i) _ refl
+          (l .loop .inv .1 D m) (c .moved-item .ensures D m),
+    )
 
 returns : tie.Need-returns Inv-loop μ-loop
 returns c D m =
     let s = c .before .before .before .args in
-    moved-end D (algebra.shiftBoth (s .w) (s .x) (s .y)) (s .words .now) (s .a) (c .before .loop .i) (s .count) (c .before .loop .inv .1 D m) (omega arith) (omega arith)
+    moved-end D (algebra.shiftBoth (s .w) (s .x) (s .y)) (s .words .now) (s .a) (c .before .loop .i) (s .count)
+    (c .before .loop .inv .1 D m) (omega arith) (omega arith)
 
 pub moved-spec : {M : Type 1} → statement M
 moved-spec =

@@ -20,8 +20,12 @@ push-item-requires c κs = search needs
 
 returns : tie.Need-returns
 returns c D m =
-    let s = c .before .before .before .before .before .before .before .args in
-    added-item _ _ (moved-copy D (shiftBoth (s .w) (s .x) (s .y)) (itemAt (s .words .now) (s .j)) _ _ _ (c .before .before .before .before .before .tag .ensures) (c .before .before .before .before .moved-three .ensures D m) (c .before .before .before .if1 .taken) (c .before .local .ensures)) (c .push-item .ensures)
+    let t = c .before .before .before .before in
+    let s = t .before .before .before .args in
+    added-item _ _
+    (moved-copy D (shiftBoth (s .w) (s .x) (s .y)) (itemAt (s .words .now) (s .j)) _ _ _ (t .before .tag .ensures)
+    (t .moved-three .ensures D m) (c .before .before .before .if1 .taken) (c .before .local .ensures))
+    (c .push-item .ensures)
 
 moved-three-requires-2 : tie.Need-moved-three-requires-2
 moved-three-requires-2 c κs =
@@ -33,8 +37,12 @@ push-item-requires-2 c κs = search needs
 
 returns-2 : tie.Need-returns-2
 returns-2 c D m =
-    let s = c .before .before .before .before .before .before .before .args in
-    added-item _ _ (moved-both D (shiftBoth (s .w) (s .x) (s .y)) (itemAt (s .words .now) (s .j)) _ _ _ (c .before .before .before .before .before .tag .ensures) (c .before .before .before .before .moved-three .ensures D m) (c .before .before .before .if1 .left) (c .before .moved-three2 .ensures D m)) (c .push-item2 .ensures)
+    let t = c .before .before .before .before in
+    let s = t .before .before .before .args in
+    added-item _ _
+    (moved-both D (shiftBoth (s .w) (s .x) (s .y)) (itemAt (s .words .now) (s .j)) _ _ _ (t .before .tag .ensures)
+    (t .moved-three .ensures D m) (c .before .before .before .if1 .left) (c .before .moved-three2 .ensures D m))
+    (c .push-item2 .ensures)
 
 pub moved-item-spec : {M : Type 1} → statement M
 moved-item-spec =

@@ -40,11 +40,14 @@ loop-less c = search needs
 
 loop-again : tie.Need-loop-again Inv-loop μ-loop
 loop-again c =
-    let l = c .before .before .before .loop in (
+    let l = c .before .before .before .loop in
+    let p = inSet (c .before .before .before .before .args .set) in (
       search needs,
       ⊎-elim
-          (λ w. step-kept (λ k. locals 11 k 0) (inSet (c .before .before .before .before .args .set)) (l .q) _ (c .before .has .ensures) (l .inv .1) _ (w .0 .taken) (local-words 11 _ _ _ _ (w .2 .ensures) (w .3 .ensures)) (w .5) (w .6) (w .4 .ensures))
-          (λ w. step-left (λ k. locals 11 k 0) (inSet (c .before .before .before .before .args .set)) (l .q) _ (c .before .has .ensures) (l .inv .1) (w .0 .left) (w .1) (w .2))
+          (λ w.
+          step-kept (λ k. locals 11 k 0) p (l .q) _ (c .before .has .ensures) (l .inv .1) _ (w .0 .taken)
+          (local-words 11 _ _ _ _ (w .2 .ensures) (w .3 .ensures)) (w .5) (w .6) (w .4 .ensures))
+          (λ w. step-left (λ k. locals 11 k 0) p (l .q) _ (c .before .has .ensures) (l .inv .1) (w .0 .left) (w .1) (w .2))
           (c .if1 .came),
     )
 

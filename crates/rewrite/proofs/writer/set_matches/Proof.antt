@@ -13,7 +13,9 @@ use Rattle.rewrite.proofs.writer.set_matches.Statement.{statement}
 use Rattle.rewrite.proofs.writer.set_matches.Tie as tie
 
 abbrev Inv-loop : tie.InvT-loop
-Inv-loop items₀ set n c₀ found₀ q₀ items c found q = (q ≤ 64) × (found ≤ q) × (found ≡ rank set q) × Added items₀ items c₀ c (map (λ k. locals 7 k (n + rank set k)) (keep (inSet set) (upto q)))
+Inv-loop items₀ set n c₀ found₀ q₀ items c found q =
+    (q ≤ 64) × (found ≤ q) × (found ≡ rank set q)
+    × Added items₀ items c₀ c (map (λ k. locals 7 k (n + rank set k)) (keep (inSet set) (upto q)))
 
 abbrev μ-loop : tie.MeasureT-loop
 μ-loop items₀ set n c₀ found₀ q₀ items c found q = 64 - q
@@ -52,8 +54,19 @@ loop-again c =
     let l = c .before .before .before .loop in
     let f : ℕ → List ℕ = λ k. locals 7 k (s .n + rank (s .set) k) in
     ⊎-elim
-    (λ w. (search needs, omega (arith, w .7), count-in (s .set) (l .q) (l .found) _ _ (c .before .has .ensures) (l .inv .2) (w .0 .taken) (w .7), step-kept f (inSet (s .set)) (l .q) _ (c .before .has .ensures) (l .inv .3) _ (w .0 .taken) (local-words 7 _ _ _ _ (w .2 .ensures) (local-same _ (s .n) _ _ (l .inv .2) (w .3 .ensures))) (w .5) (w .6) (w .4 .ensures)))
-    (λ w. (search needs, omega (arith, w .3), count-out (s .set) (l .q) (l .found) _ _ (c .before .has .ensures) (l .inv .2) (w .0 .left) (w .3), step-left f (inSet (s .set)) (l .q) _ (c .before .has .ensures) (l .inv .3) (w .0 .left) (w .1) (w .2)))
+    (λ w. (
+      search needs,
+      omega (arith, w .7),
+      count-in (s .set) (l .q) (l .found) _ _ (c .before .has .ensures) (l .inv .2) (w .0 .taken) (w .7),
+      step-kept f (inSet (s .set)) (l .q) _ (c .before .has .ensures) (l .inv .3) _ (w .0 .taken)
+          (local-words 7 _ _ _ _ (w .2 .ensures) (local-same _ (s .n) _ _ (l .inv .2) (w .3 .ensures))) (w .5) (w .6) (w .4 .ensures),
+    ))
+    (λ w. (
+      search needs,
+      omega (arith, w .3),
+      count-out (s .set) (l .q) (l .found) _ _ (c .before .has .ensures) (l .inv .2) (w .0 .left) (w .3),
+      step-left f (inSet (s .set)) (l .q) _ (c .before .has .ensures) (l .inv .3) (w .0 .left) (w .1) (w .2),
+    ))
     (c .if1 .came)
 
 returns : tie.Need-returns Inv-loop μ-loop

@@ -58,11 +58,15 @@ loop-again c =
       search needs,
       step (λ k. shiftedWords (s .d) (itemAt (s .words .now) (s .a + k))) (l .loop .i) _
           (shifted-words (s .words .now) _ _ (s .d) _ (i .before .tag .ensures) _ _ (c .before .before .local .ensures) (c .before .local2 .ensures)
-          (⊎-elim (λ w. column-moved (s .words .now) _ _ _ _ _ (w .0 .taken) (w .1 .ensures) (w .2)) (λ w. column-none (s .words .now) _ _ _ _ (w .0 .left) (w .1)) (i .if1 .came))) (l .loop .inv .1) (c .push-item .ensures),
+          (⊎-elim (λ w. column-moved (s .words .now) _ _ _ _ _ (w .0 .taken) (w .1 .ensures) (w .2))
+          (λ w. column-none (s .words .now) _ _ _ _ (w .0 .left) (w .1)) (i .if1 .came)))
+          (l .loop .inv .1) (c .push-item .ensures),
     )
 
 returns : tie.Need-returns Inv-loop μ-loop
-returns c = shifted-end (c .before .before .before .args .words .now) _ _ (c .before .loop .i) (c .before .before .before .args .count) (c .before .loop .inv .1) (omega arith) (omega arith)
+returns c =
+    let a = c .before .before .before .args in
+    shifted-end (a .words .now) _ _ (c .before .loop .i) (a .count) (c .before .loop .inv .1) (omega arith) (omega arith)
 
 pub shifted-spec : {M : Type 1} → statement M
 shifted-spec =
