@@ -9,10 +9,10 @@ use lib.ListN.{length, drop, replicate}
 use Rattle.algebra.specs.Value.{Row}
 use Rattle.algebra.specs.Meaning.{answer}
 use Rattle.plan.specs.Plan.{widthsOf, nodesOf}
-use Rattle.evaluate.specs.Cells.{cellsOf}
-use Rattle.evaluate.specs.Database.{databaseOf}
+use Rattle.store.specs.Cells.{cellsOf}
+use Rattle.store.specs.Database.{databaseOf}
 use Rattle.evaluate.specs.Answer.{Evaluation, refusal, isRun, evaluation, outputAfter, scratchAfter}
-use Rattle.evaluate.specs.Statements.{NeverBoth, Cause}
+use Rattle.working.specs.Statements.{NeverBoth, Cause}
 
 -- the rows that the operator rules give the plan over the database
 abbrev pub rowsOf : List ℕ → List ℕ → List ℤ → List Row

@@ -1,4 +1,3 @@
--- The laws; the statements stand in Accepted and Answers.
 pub mod Laws
 pub mod Accepted
 pub mod Answers

@@ -8,9 +8,9 @@ use Rattle.algebra.specs.Plan.{Node}
 use Rattle.algebra.specs.Columns.{shapeAt, closed}
 use Rattle.algebra.specs.Rewriting.{Placed, closedNode}
 use Rattle.plan.specs.Plan.{nodeAt, widthsOf, nodesOf}
-use Rattle.rewrite.specs.declared.page.Cursor.{Cursor}
-use Rattle.rewrite.specs.Pages.{Stands, Page}
-use Rattle.rewrite.specs.Under.{piece}
+use Rattle.pages.specs.declared.page.Cursor.{Cursor}
+use Rattle.pages.specs.Pages.{Stands, Page}
+use Rattle.rules.specs.Under.{piece}
 
 -- the copies of the closed nodes below n stand among the nodes out, with their widths
 abbrev pub Copies : List ℕ → (ℕ → ℕ) → ℕ → List Node → Type 0

@@ -1,23 +1,15 @@
 // The rewriter: a plan without dependent joins.
-mod sets; // read columns as a u64 set
-mod domain; // a domain, and where an outer column stands in it
-mod page; // what has been written
-mod writer; // the items of a node that is written next
-mod reads; // the columns that each node reads, and a new domain's keys
-mod finish; // the nodes of a rule, once its inputs stand
-mod put; // a node under a domain
 mod steps; // closed nodes in number order
-mod output; // the new words
 
-use output::total_words;
-use output::write_table;
+use pages::output::total_words;
+use pages::output::write_table;
 use plan::Plan;
 use plan::Refusal;
 use plan::Verdict;
 use plan::check;
 use plan::reach::work_out_reaches;
 use plan::widths::work_out_widths;
-use reads::work_out_reads;
+use rules::reads::work_out_reads;
 use steps::rewrite_nodes;
 ghost use mathlib.Core.Path.{_≡_};
 ghost use lib.ListN.{length};

@@ -29,13 +29,13 @@ use Rattle.plan.proofs.Laws.Header.{header-says}
 use Rattle.plan.proofs.Laws.Loops.{all-of}
 use Rattle.plan.proofs.Laws.Numbered.{every-all, numbered, numbered-length}
 use Rattle.plan.proofs.Laws.Words.{word-read}
-use Rattle.rewrite.specs.declared.page.Cursor.{Cursor}
+use Rattle.pages.specs.declared.page.Cursor.{Cursor}
 use Rattle.rewrite.specs.declared.Rewritten.the-variants.{Words, Refused, OverLimits, NoRoom}
 use Rattle.rewrite.specs.Outcomes.{outcomeOf}
 use Rattle.rewrite.specs.Answer.{withinLimits, newPlan, newWords, refusal, rewriting, outputAfter}
-use Rattle.rewrite.specs.Output.{total, table}
-use Rattle.rewrite.specs.Pages.{Fits, Holds, Finished}
-use Rattle.rewrite.proofs.Laws.Pages.{shape-past}
+use Rattle.pages.specs.Output.{total, table}
+use Rattle.pages.specs.Pages.{Fits, Holds, Finished}
+use Rattle.pages.proofs.Laws.Pages.{shape-past}
 
 -- ---- the limits
 

@@ -19,20 +19,20 @@ use Rattle.plan.specs.Plan.{kindOf, nodeFor, nodeAt, widthsOf, nodesOf}
 use Rattle.plan.specs.Verdict.{widthAt}
 use Rattle.plan.specs.Promise.{Accepted}
 use Rattle.plan.proofs.Laws.Formed.{NodeFacts, by-operator, facts-at, dependent-left, dependent-right}
-use Rattle.rewrite.specs.declared.domain.Domain as code
-use Rattle.rewrite.specs.declared.page.Cursor.{Cursor}
-use Rattle.rewrite.specs.Pages.{Fits, Page, Grows, GrowsOver, copyOf}
-use Rattle.rewrite.specs.Sets.{members}
-use Rattle.rewrite.specs.Domains.{Means}
-use Rattle.rewrite.specs.Reads.{KeySet, ReadsTable, readsAt}
-use Rattle.rewrite.specs.Under.{Puts, Ready, Within, put, withInner}
+use Rattle.pages.specs.declared.domain.Domain as code
+use Rattle.pages.specs.declared.page.Cursor.{Cursor}
+use Rattle.pages.specs.Pages.{Fits, Page, Grows, GrowsOver, copyOf}
+use Rattle.pages.specs.Sets.{members}
+use Rattle.pages.specs.Domains.{Means}
+use Rattle.rules.specs.Reads.{KeySet, ReadsTable, readsAt}
+use Rattle.rules.specs.Under.{Puts, Ready, Within, put, withInner}
 use Rattle.rewrite.specs.Closing.{Closes, Copies, closing}
-use Rattle.rewrite.proofs.Laws.Inputs.{inner-within, spotted}
-use Rattle.rewrite.proofs.Laws.Standing.{stands-more}
-use Rattle.rewrite.proofs.Laws.Pages.{fits-front}
-use Rattle.rewrite.proofs.Laws.Put.{inner-extends, last-is, page-over, page-then}
-use Rattle.rewrite.proofs.Laws.Behind.{AtEnd, Extends, emit-end, extends-none, extends-one, extends-then}
-use Rattle.rewrite.proofs.Laws.Fuel.{own, put-behind, put-end}
+use Rattle.rules.proofs.Laws.Inputs.{inner-within, spotted}
+use Rattle.rules.proofs.Laws.Standing.{stands-more}
+use Rattle.pages.proofs.Laws.Pages.{fits-front}
+use Rattle.rules.proofs.Laws.Put.{inner-extends, last-is, page-over, page-then}
+use Rattle.rules.proofs.Laws.Behind.{AtEnd, Extends, emit-end, extends-none, extends-one, extends-then}
+use Rattle.rules.proofs.Laws.Fuel.{own, put-behind, put-end}
 
 -- ---- what is over a limit stays over
 

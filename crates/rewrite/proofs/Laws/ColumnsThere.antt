@@ -20,10 +20,10 @@ use Rattle.algebra.proofs.Lists.Every.{every-append, every-in, every-map}
 use Rattle.algebra.proofs.Tables.Tidy.{closed-back, closed-every, closed-front}
 use Rattle.plan.specs.Verdict.{columnsThere}
 use Rattle.algebra.proofs.Tables.Fine.{fine-below}
-use Rattle.rewrite.proofs.Laws.Columns.{columns-closed, columns-same}
-use Rattle.rewrite.proofs.Laws.ColumnsWritten.{Grows, Sits, Sound, Wrote, grows-none, no-node, one-more}
-use Rattle.rewrite.proofs.Laws.ColumnsWritten.{sits-closed, sits-grows, widthIn, wrote, wrote-join, wrote-unnest, wrote-width}
-use Rattle.rewrite.proofs.Laws.ColumnsUnder.{open-node}
+use Rattle.rules.proofs.Laws.Columns.{columns-closed, columns-same}
+use Rattle.rules.proofs.Laws.ColumnsWritten.{Grows, Sits, Sound, Wrote, grows-none, no-node, one-more}
+use Rattle.rules.proofs.Laws.ColumnsWritten.{sits-closed, sits-grows, widthIn, wrote, wrote-join, wrote-unnest, wrote-width}
+use Rattle.rules.proofs.Laws.ColumnsUnder.{open-node}
 use Rattle.rewrite.proofs.Laws.Shaped.{Shaped, shaped-snoc, shapes-are}
 
 -- ---- closed nodes

@@ -24,11 +24,11 @@ use Rattle.plan.specs.Promise.{Accepted, Formed}
 use Rattle.plan.proofs.Laws.Formed.{inputs-below}
 use Rattle.plan.proofs.Laws.Numbered.{numbered-add, numbered-at, numbered-length, numbered-take}
 use Rattle.rewrite.specs.Answer.{newPlan}
-use Rattle.rewrite.specs.Under.{piece, put}
+use Rattle.rules.specs.Under.{piece, put}
 use Rattle.rewrite.specs.Closing.{Copies, closing}
-use Rattle.rewrite.proofs.Laws.Alike.{Alike, open-alike, closed-alike}
+use Rattle.rules.proofs.Laws.Alike.{Alike, open-alike, closed-alike}
 use Rattle.algebra.proofs.Tables.Fine.{fine-front}
-use Rattle.rewrite.proofs.Laws.ColumnsWritten.{no-node}
+use Rattle.rules.proofs.Laws.ColumnsWritten.{no-node}
 use Rattle.rewrite.proofs.Laws.ColumnsThere.{Built, Legal, built-step, legal-before, sound-at}
 use Rattle.rewrite.proofs.Laws.Shaped.{Shaped, shaped-none, shaped-step, shapes-are}
 

@@ -30,7 +30,7 @@ use Rattle.plan.proofs.Laws.Fitting.{narrow, storable}
 use Rattle.plan.proofs.Laws.Formed.{NodeFacts, facts-at}
 use Rattle.plan.proofs.Laws.Rebuilt.{items-again, left-again, operator-again}
 use Rattle.plan.proofs.Laws.Written.{aggregateItem, conjunctItem, nodeItems, positionItem}
-use Rattle.rewrite.proofs.Laws.Columns.{Held, inner-held}
+use Rattle.rules.proofs.Laws.Columns.{Held, inner-held}
 
 -- ---- what is asked of a node
 

@@ -16,7 +16,7 @@ use Rattle.algebra.specs.Statements.{Fine, FineFrom, InLeft}
 use Rattle.algebra.proofs.Lists.Every.{any-some, every-append, every-back, every-front, every-head, every-in, every-map, every-tail}
 use Rattle.algebra.proofs.Tables.Tidy.{closed-back, closed-every}
 use Rattle.algebra.proofs.Tables.Fine.{fine-below}
-use Rattle.rewrite.proofs.Laws.Columns.{Held, inner-held, inside-held}
+use Rattle.rules.proofs.Laws.Columns.{Held, inner-held, inside-held}
 use Rattle.rewrite.proofs.Laws.Sensible.{Fit, Stored, around-some, both-stored, computation-stored}
 use Rattle.rewrite.proofs.Laws.Sensible.{conjuncts-stored, first-some, inner-stored, keys-some, match-stored, width-some}
 use Rattle.rewrite.proofs.Laws.Shaped.{Shaped, shaped-none, shaped-step, shapes-are}

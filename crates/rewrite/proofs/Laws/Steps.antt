@@ -15,13 +15,13 @@ use Rattle.plan.specs.Words as words
 use Rattle.plan.specs.Words.{nodes}
 use Rattle.plan.specs.Plan.{nodeAt, widthsOf}
 use Rattle.plan.specs.Promise.{Accepted}
-use Rattle.rewrite.specs.declared.page.Cursor.{Cursor}
+use Rattle.pages.specs.declared.page.Cursor.{Cursor}
 use Rattle.rewrite.specs.Answer.{newPlan}
-use Rattle.rewrite.specs.Pages.{Page, Finished}
+use Rattle.pages.specs.Pages.{Page, Finished}
 use Rattle.rewrite.specs.Closing.{Closes, closing}
-use Rattle.rewrite.proofs.Laws.Pages.{over-more, page-zero}
-use Rattle.rewrite.proofs.Laws.Behind.{AtEnd, Extends}
-use Rattle.rewrite.proofs.Laws.Put.{last-is}
+use Rattle.pages.proofs.Laws.Pages.{over-more, page-zero}
+use Rattle.rules.proofs.Laws.Behind.{AtEnd, Extends}
+use Rattle.rules.proofs.Laws.Put.{last-is}
 use Rattle.rewrite.proofs.Laws.Closed.{closing-behind, closing-end}
 use Rattle.rewrite.proofs.Laws.Pieces.{step-closed, step-open, after, shape, after-suc, next-shape}
 use Rattle.rewrite.proofs.Laws.Pieces.{piece-before, piece-next, imageOf, Placing, next-closed, copies-stand}

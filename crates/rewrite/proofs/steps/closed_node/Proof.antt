@@ -12,11 +12,11 @@ use Rattle.plan.proofs.Laws.Formed.{dependent-left, dependent-right}
 use Rattle.plan.specs.Words.{left, nodes, operator, right}
 use Rattle.plan.specs.Plan.{nodesOf, widthsOf}
 use Rattle.plan.specs.Verdict.{widthAt}
-use Rattle.rewrite.specs.Sets.{members}
-use Rattle.rewrite.specs.Reads.{readsAt}
-use Rattle.rewrite.proofs.Laws.Domains.{inner-domain}
-use Rattle.rewrite.proofs.Laws.Limits.{node-index}
-use Rattle.rewrite.proofs.Laws.Put.{inner-sound, is-closed, is-open, width-is}
+use Rattle.pages.specs.Sets.{members}
+use Rattle.rules.specs.Reads.{readsAt}
+use Rattle.pages.proofs.Laws.Domains.{inner-domain}
+use Rattle.pages.proofs.Laws.Limits.{node-index}
+use Rattle.rules.proofs.Laws.Put.{inner-sound, is-closed, is-open, width-is}
 use Rattle.rewrite.proofs.Laws.Closed.{keys-are, domain-over, inner-closes, copy-closes}
 use borrow.Author.Needs.{needs}
 use Rattle.rewrite.proofs.steps.closed_node.Statement.{statement}

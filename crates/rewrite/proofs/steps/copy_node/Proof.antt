@@ -6,8 +6,8 @@ use native.Mathlib.Omega.{arith}
 use lib.ListN.{getD}
 use Rattle.plan.specs.Words.{right}
 use Rattle.plan.specs.Verdict.{hasRight}
-use Rattle.rewrite.proofs.Laws.Limits.{items-within}
-use Rattle.rewrite.proofs.Laws.Copies.{left-few, right-few, no-scan, paired, copied-scan, copied-join, copied-groupjoin, copied-other}
+use Rattle.pages.proofs.Laws.Limits.{items-within}
+use Rattle.rules.proofs.Laws.Copies.{left-few, right-few, no-scan, paired, copied-scan, copied-join, copied-groupjoin, copied-other}
 use borrow.Author.Needs.{needs}
 use Rattle.rewrite.proofs.steps.copy_node.Statement.{statement}
 use Rattle.rewrite.proofs.steps.copy_node.Tie as tie

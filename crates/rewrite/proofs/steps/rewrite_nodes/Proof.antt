@@ -4,8 +4,8 @@ use mathlib.Core.List.{List}
 use Prim.Native.Nat.{ℕ, _-_, _<_, _≤_}
 use native.Mathlib.Omega.{arith}
 use Rattle.plan.specs.Words.{nodes}
-use Rattle.rewrite.proofs.Laws.Limits.{node-index}
-use Rattle.rewrite.proofs.Laws.Put.{is-closed, is-open}
+use Rattle.pages.proofs.Laws.Limits.{node-index}
+use Rattle.rules.proofs.Laws.Put.{is-closed, is-open}
 use Rattle.rewrite.proofs.Laws.Steps.{Stepped, stepped-none, stepped-open, stepped-closed, stepped-all}
 use borrow.Author.Needs.{needs}
 use Rattle.rewrite.proofs.steps.rewrite_nodes.Statement.{statement}

@@ -1,0 +1,3 @@
+pub mod Bindings
+pub mod Choice
+pub mod Made

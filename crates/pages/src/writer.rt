@@ -1,0 +1,227 @@
+// The items of a node that is written next.
+use crate::domain::Domain;
+use crate::domain::place;
+use crate::page::Cursor;
+use crate::page::ItemWords;
+use crate::page::Three;
+use crate::page::push_item;
+use crate::sets::has;
+use plan::words::item_word;
+use plan::words::position;
+use plan::words::tag;
+ghost use mathlib.Core.Path.{_≡_};
+ghost use mathlib.Core.Bool.{true};
+ghost use mathlib.Core.List.{[], _∷_, map};
+ghost use Prim.Native.Nat.{ℕ, _+_, _≤_, _<_};
+ghost use Rattle.algebra.specs.Lists.{upto};
+ghost use Rattle.algebra.specs.Domains as algebra;
+ghost use Rattle.plan.specs.Words as spec;
+ghost use Rattle.plan.specs.Items.{termOf, termRight};
+ghost use Rattle.plan.specs.Encoding.{termWords, conjunctWords, positionWords};
+ghost use Rattle.pages.specs.Sets.{members};
+ghost use Rattle.pages.specs.Domains.{Means};
+ghost use Rattle.pages.specs.Pages.{Added};
+ghost use Rattle.pages.specs.Items.{itemWords, shiftedWords, movedWords, Small, Movable};
+
+// A local column.
+fn local(position: u32) -> Three
+    ensures { λ r. ⌜ (r .code ≡ 0) × (r .level ≡ 0) × (r .value ≡ position) ⌝ }
+{
+    Three {
+        code: 0,
+        level: 0,
+        value: position,
+    }
+}
+
+// A tag 7 for each of d columns, the other one behind n others.
+pub fn matches(items: &mut ItemWords, c: Cursor, d: u32, n: u32) -> Cursor
+    requires { ⌜ (d ≤ 64) × (n ≤ 1000) ⌝ }
+    ensures { λ r. ⌜ Added (now (items .entry)) (now (items .exit)) c r (map conjunctWords (algebra.match (λ q. q) (λ q. n + q) (upto d))) ⌝ }
+{
+    let mut c = c;
+    let mut i = 0;
+    while i < d {
+        c = push_item(items, c, 7, local(i), local(n + i));
+        i += 1;
+    }
+    c
+}
+
+// A tag 7 for each column of set, the other one at its place behind n others.
+pub fn set_matches(items: &mut ItemWords, c: Cursor, set: u64, n: u32) -> Cursor
+    requires { ⌜ n ≤ 1000 ⌝ }
+    ensures { λ r. ⌜ Added (now (items .entry)) (now (items .exit)) c r (map conjunctWords (algebra.match (λ q. q) (λ q. n + algebra.below (members set) q) (members set))) ⌝ }
+{
+    let mut c = c;
+    let mut found = 0;
+    let mut q = 0;
+    while q < 64 {
+        if has(set, q) {
+            c = push_item(items, c, 7, local(q), local(n + found));
+            found += 1;
+        }
+        q += 1;
+    }
+    c
+}
+
+// Keys or output columns: n columns from a on.
+pub fn columns(items: &mut ItemWords, c: Cursor, tag: u32, a: u32, n: u32) -> Cursor
+    requires { ⌜ a + n ≤ 1000 ⌝ }
+    ensures { λ r. ⌜ Added (now (items .entry)) (now (items .exit)) c r (map (positionWords tag) (algebra.span a n)) ⌝ }
+{
+    let mut c = c;
+    let mut i = 0;
+    while i < n {
+        c = push_item(items, c, tag, local(a + i), local(0));
+        i += 1;
+    }
+    c
+}
+
+// The columns of set as keys.
+pub fn set_keys(items: &mut ItemWords, c: Cursor, set: u64) -> Cursor
+    ensures { λ r. ⌜ Added (now (items .entry)) (now (items .exit)) c r (map (positionWords 11) (members set)) ⌝ }
+{
+    let mut c = c;
+    let mut q = 0;
+    while q < 64 {
+        if has(set, q) {
+            c = push_item(items, c, 11, local(q), local(0));
+        }
+        q += 1;
+    }
+    c
+}
+
+// The term whose three words begin at word k of item j, as they stand.
+fn three(words: &[u32], j: u32, k: u32) -> Three
+    requires { ⌜ k ≤ 4 ⌝ }
+    ensures { λ r. ⌜ (r .code ≡ spec.itemWord (now (words .entry)) j k) × (r .level ≡ spec.itemWord (now (words .entry)) j (k + 1)) × (r .value ≡ spec.itemWord (now (words .entry)) j (k + 2)) ⌝ }
+{
+    Three {
+        code: item_word(words, j, k),
+        level: item_word(words, j, k + 1),
+        value: item_word(words, j, k + 2),
+    }
+}
+
+// Items as they stand.
+pub fn copied(words: &[u32], items: &mut ItemWords, c: Cursor, a: u32, count: u32) -> Cursor
+    requires { ⌜ a + count ≤ 2000 ⌝ }
+    ensures { λ r. ⌜ Added (now (items .entry)) (now (items .exit)) c r (map itemWords (spec.itemsFrom (now (words .entry)) a count)) ⌝ }
+{
+    let mut c = c;
+    let mut i = 0;
+    while i < count {
+        let j = a + i;
+        c = push_item(
+            items,
+            c,
+            tag(words, j),
+            three(words, j, 1),
+            three(words, j, 4),
+        );
+        i += 1;
+    }
+    c
+}
+
+// Keys, output columns and aggregates, each column behind d others.
+pub fn shifted(
+    words: &[u32],
+    items: &mut ItemWords,
+    c: Cursor,
+    a: u32,
+    count: u32,
+    d: u32,
+) -> Cursor
+    requires { ⌜ (a + count ≤ 2000) × (d ≤ 64) × ((i : ℕ) → i < count → spec.itemWord (now words) (a + i) 3 < 1000) ⌝ }
+    ensures { λ r. ⌜ Added (now (items .entry)) (now (items .exit)) c r (map (shiftedWords d) (spec.itemsFrom (now (words .entry)) a count)) ⌝ }
+{
+    let mut c = c;
+    let mut i = 0;
+    while i < count {
+        let j = a + i;
+        let t = tag(words, j);
+        let mut p = 0;
+        if t != 13 {
+            p = d + position(words, j);
+        }
+        c = push_item(items, c, t, local(p), local(0));
+        i += 1;
+    }
+    c
+}
+
+// A local position of a left row of width w then a right row, with x columns in front of the left and y in front of the right.
+fn both(p: u32, w: u32, x: u32, y: u32) -> u32
+    requires { ⌜ (p < 1000) × (x ≤ 1000) × (y ≤ 1000) ⌝ }
+    ensures { λ r. ⌜ r ≡ algebra.shiftBoth w x y p ⌝ }
+{
+    if p < w {
+        return x + p;
+    }
+    x + y + p
+}
+
+// A term, moved.
+fn moved_three(words: &[u32], j: u32, k: u32, d: Domain, w: u32, x: u32, y: u32) -> Three
+    requires { ⌜ (k ≤ 4) × (x ≤ 1000) × (y ≤ 1000) × (termRight (spec.threeAt (now words) j k) ≡ true) × Small (spec.threeAt (now words) j k) ⌝ }
+    ensures { λ r. ⌜ ((D : algebra.Domain) → Means d D → (r .code ∷ r .level ∷ r .value ∷ []) ≡ termWords (algebra.moveTerm D (algebra.shiftBoth w x y) (termOf (spec.threeAt (now (words .entry)) j k)))) ⌝ }
+{
+    let t = three(words, j, k);
+    let code = t.code;
+    match code {
+        0 => local(both(t.value, w, x, y)),
+        1 => local(place(d, t.level, t.value)),
+        _ => t,
+    }
+}
+
+// One conjunct or computation, moved.
+fn moved_item(
+    words: &[u32],
+    items: &mut ItemWords,
+    c: Cursor,
+    j: u32,
+    d: Domain,
+    w: u32,
+    x: u32,
+    y: u32,
+) -> Cursor
+    requires { ⌜ (x ≤ 1000) × (y ≤ 1000) × Movable (spec.itemAt (now words) j) ⌝ }
+    ensures { λ r. ⌜ ((D : algebra.Domain) → Means d D → Added (now (items .entry)) (now (items .exit)) c r (movedWords D (algebra.shiftBoth w x y) (spec.itemAt (now (words .entry)) j) ∷ [])) ⌝ }
+{
+    let t = tag(words, j);
+    let first = moved_three(words, j, 1, d, w, x, y);
+    if t == 8 {
+        return push_item(items, c, t, first, local(0));
+    }
+    push_item(items, c, t, first, moved_three(words, j, 4, d, w, x, y))
+}
+
+// Conjuncts or a computation, moved.
+pub fn moved(
+    words: &[u32],
+    items: &mut ItemWords,
+    c: Cursor,
+    a: u32,
+    count: u32,
+    d: Domain,
+    w: u32,
+    x: u32,
+    y: u32,
+) -> Cursor
+    requires { ⌜ (a + count ≤ 2000) × (x ≤ 1000) × (y ≤ 1000) × ((i : ℕ) → i < count → Movable (spec.itemAt (now words) (a + i))) ⌝ }
+    ensures { λ r. ⌜ ((D : algebra.Domain) → Means d D → Added (now (items .entry)) (now (items .exit)) c r (map (movedWords D (algebra.shiftBoth w x y)) (spec.itemsFrom (now (words .entry)) a count))) ⌝ }
+{
+    let mut c = c;
+    let mut i = 0;
+    while i < count {
+        c = moved_item(words, items, c, a + i, d, w, x, y);
+        i += 1;
+    }
+    c
+}

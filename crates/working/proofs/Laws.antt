@@ -1,0 +1,15 @@
+pub mod Beneath
+pub mod Causes
+pub mod Finished
+pub mod Finishing
+pub mod Frames
+pub mod Operating
+pub mod Order
+pub mod Pairs
+pub mod Places
+pub mod Rooms
+pub mod Run
+pub mod Running
+pub mod Walking
+pub mod Wideness
+pub mod Working

@@ -1,0 +1,4 @@
+pub mod Run
+pub mod Nodes
+pub mod Statements
+pub mod Running
