@@ -8,7 +8,10 @@
  * 8, nodes N, 8+T, items I, 8+T+6N, 0), the T table widths, the N nodes of 6
  * words (operator, left, right, kind, first item, item count) and the I items of
  * 7 words (tag, two terms of 3 words). Inputs are lower node numbers; the last
- * node is the root. examples/scrub_list.c has a whole one.
+ * node is the root. Items stand in the order of their nodes: first item is the
+ * number of items of all nodes before, also where a node has none, and the
+ * counts add up to I. examples/scrub_list.c has a whole one; docs/PLANS.md says
+ * all of it, with the rows that each operator gives.
  *   operators  1 scan (left: table)  2 select  3 map  4 project  5 join  6 group
  *              7 groupjoin  8 dependent join
  *   kinds      of 5 and 8: 1 inner  2 semi  3 anti  4 left outer
@@ -37,6 +40,12 @@ extern "C" {
 /* No plan table that is accepted has more words. */
 #define TUNESATURN_LONGEST 15560
 
+/* The bytes of stack that each function takes at the deepest plans, measured from
+ * outside on x86-64 (tests/stack.c) and rounded up; no proof speaks of them. */
+#define TUNESATURN_CHECK_STACK 8192
+#define TUNESATURN_REWRITE_STACK 278528
+#define TUNESATURN_EVALUATE_STACK 249856
+
 /* number: 0 where the call is accepted, else the number of the refusal;
  * node:   the node that a refusal 3 to 7, 14 or 15 names, else 0;
  * count:  what the function says of it, 0 for a refusal. */
@@ -48,7 +57,9 @@ typedef struct {
 
 /* Checks a plan table of any length with any words. It answers 0, 0, 0 for a
  * plan that is accepted, and otherwise the first refusal, lowest node first:
- *   1  the header is wrong            2  a limit is passed
+ *   1  the header is wrong
+ *   2  not 1 to 16 tables, 1 to 256 nodes, at most 2,000 items, or a table's width
+ *      not 1 to 64
  *   3  a node or its items malformed  4  a node other than the root unused
  *   5  a row wider than 64            6  an open node used more than once
  *   7  a column that does not exist
@@ -62,7 +73,15 @@ tunesaturn_answer tunesaturn_check(const uint32_t *words, size_t length);
  *   9  out is shorter than the rewritten plan
  * Where it is accepted, the new words stand at the front of out and the rest
  * of out is as it was; TUNESATURN_LONGEST words are always enough. Where it is
- * refused, all of out is as it was. The words are only read. */
+ * refused, all of out is as it was. The words are only read.
+ *
+ * When to rewrite: as written, the right side of a dependent join is worked out
+ * anew for each left row, so that over two rows each further dependent join inside
+ * another doubles the time; a rewriting works every node out once. It pays with
+ * rows: the rules keep the plan's rows for every database, but a rewriting holds
+ * more in between (the domain joined with a table: with a limit of 4,096 about 64
+ * drives by 64 scrubs), so tunesaturn_evaluate may refuse it with 14 where it
+ * accepts the original, and it needs more scratch. */
 tunesaturn_answer tunesaturn_rewrite(const uint32_t *words, size_t length,
                                      uint32_t *out, size_t room);
 
@@ -80,7 +99,10 @@ tunesaturn_answer tunesaturn_rewrite(const uint32_t *words, size_t length,
  * Where it is accepted, the root's rows stand one after the other at the front of
  * out and the rest of out is as it was; where it is refused, all of out is as it
  * was. Refused with 1 to 13 it leaves scratch as it was, otherwise every cell of
- * scratch is 0. Words, counts and cells are only read. */
+ * scratch is 0. Words, counts and cells are only read.
+ *
+ * A plan with dependent joins inside one another can take long: over two rows the
+ * time doubles with each. tunesaturn_rewrite is the way out. */
 tunesaturn_answer tunesaturn_evaluate(const uint32_t *words, size_t length,
                                       const uint32_t *counts, size_t tables,
                                       const int64_t *cells, size_t cell_count,

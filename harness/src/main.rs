@@ -17,11 +17,13 @@ use dice::Dice;
 use std::collections::BTreeMap;
 use std::time::{Duration, Instant};
 
-const HELP: &str = "harness test                  200,000 inputs from a fixed seed; the last line is 'N compared, 0 different'
+const HELP: &str = "harness test                  200,000 inputs from a fixed seed, among them every refusal of each function; the last line is 'N compared, 0 different'
 harness fuzz SECONDS [SEED]   inputs for so long, from a seed of the clock or this one
 harness bench                 a table of times, beside hand-written Rust and SQLite";
 
 const PLANS: usize = 200_000;
+
+const FUNCTIONS: [&str; 3] = ["check", "rewrite", "evaluate"];
 
 /// What each entry point answered, by number of refusal.
 #[derive(Default)]
@@ -35,9 +37,19 @@ impl Tally {
     }
 
     fn print(&self) {
-        for (name, counts) in ["check", "rewrite", "evaluate"].iter().zip(&self.0) {
+        for (name, counts) in FUNCTIONS.iter().zip(&self.0) {
             println!("{name}, by number of refusal: {counts:?}");
         }
+    }
+
+    /// The numbers of document 01 that a function never answered, acceptance (0) among them.
+    fn unmet(&self) -> Vec<(&str, u32)> {
+        let own = [8..8, 8..10, 10..16];
+        let mut unmet = vec![];
+        for ((name, counts), own) in FUNCTIONS.iter().zip(&self.0).zip(own) {
+            unmet.extend((0..8).chain(own).filter(|number| !counts.contains_key(number)).map(|number| (*name, number)));
+        }
+        unmet
     }
 }
 
@@ -73,7 +85,7 @@ fn report(seed: u64, input: &Input, text: &str) -> ! {
 }
 
 /// Each input has a seed of its own, so that one number brings a failure back.
-fn run(first: u64, goes_on: impl Fn(u64) -> bool) {
+fn run(first: u64, goes_on: impl Fn(u64) -> bool) -> Tally {
     let mut tally = Tally::default();
     let mut seed = first;
     while goes_on(seed) {
@@ -86,19 +98,30 @@ fn run(first: u64, goes_on: impl Fn(u64) -> bool) {
     }
     tally.print();
     println!("{} compared, 0 different", seed - first);
+    tally
+}
+
+/// The fixed inputs are worth little where they miss a refusal.
+fn test() {
+    let tally = run(1, |seed| seed <= PLANS as u64);
+    let unmet = tally.unmet();
+    if !unmet.is_empty() {
+        println!("never answered: {unmet:?}");
+        std::process::exit(1);
+    }
 }
 
 fn main() {
     let words: Vec<String> = std::env::args().skip(1).collect();
     let words: Vec<&str> = words.iter().map(String::as_str).collect();
     match words[..] {
-        ["test"] => run(1, |seed| seed <= PLANS as u64),
+        ["test"] => test(),
         ["fuzz", seconds, ref rest @ ..] if rest.len() <= 1 => {
             let clock = std::time::SystemTime::now().duration_since(std::time::UNIX_EPOCH).unwrap().as_nanos() as u64;
             let seed = rest.first().map_or(clock, |text| text.parse().expect("SEED is a number"));
             let end = Instant::now() + Duration::from_secs(seconds.parse().expect("SECONDS is a number"));
             println!("from seed {seed}");
-            run(seed, |_| Instant::now() < end);
+            drop(run(seed, |_| Instant::now() < end));
         }
         ["bench"] => bench::bench(),
         _ => {

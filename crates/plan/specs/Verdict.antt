@@ -18,7 +18,7 @@ pub record Answer : Type 0 where
   pub node : ℕ
 
 -- the same with a count: "returns their number"
-pub record Outcome : Type 0 where
+pub record CountedAnswer : Type 0 where
   pub number : ℕ
   pub node : ℕ
   pub count : ℕ

@@ -5,11 +5,11 @@ use lib.Dec.{eqb}
 use Rattle.plan.specs.declared.Refusal.the-variants.{Header, Limits, Malformed, Unused, TooWide, OpenTwice, NoColumn}
 use Rattle.rewrite.specs.declared.Rewritten.{Rewritten}
 use Rattle.rewrite.specs.declared.Rewritten.the-variants.{Words, Refused, OverLimits, NoRoom}
-use Rattle.plan.specs.Verdict.{Outcome}
+use Rattle.plan.specs.Verdict.{CountedAnswer}
 use Rattle.rewrite.specs.Outcomes.{outcomeOf}
 
 -- the answer that a number, a node and a count name
-abbrev rewrittenFrom : Outcome → Rewritten
+abbrev rewrittenFrom : CountedAnswer → Rewritten
 rewrittenFrom a =
     cond (eqb (a .number) 0) (Words (a .count))
     (cond (eqb (a .number) 1) (Refused Header)

@@ -9,7 +9,7 @@ use Rattle.algebra.specs.Plan.{Node}
 use Rattle.algebra.specs.Columns.{shapeAt}
 use Rattle.algebra.specs.Rewriting.{rewritten}
 use Rattle.plan.specs.Plan.{widthsOf, nodesOf}
-use Rattle.plan.specs.Verdict.{Answer, Outcome, accepted, verdict}
+use Rattle.plan.specs.Verdict.{Answer, CountedAnswer, accepted, verdict}
 use Rattle.plan.specs.Encoding.{wordsOf, allItems}
 
 -- "over 256 nodes, over 2,000 items or a row over 64": not so
@@ -38,7 +38,7 @@ abbrev pub isAccepted : List ℕ → ℕ → Bool
 isAccepted ws room = eqb (refusal ws room .number) 0
 
 -- number, node, and how many words were written
-unfoldable pub rewriting : List ℕ → ℕ → Outcome
+unfoldable pub rewriting : List ℕ → ℕ → CountedAnswer
 rewriting ws room = record { number = refusal ws room .number; node = refusal ws room .node; count = cond (isAccepted ws room) (length (newWords ws)) 0 }
 
 -- the output after the call: the new words "at the front of the output, leaves the rest"; untouched where it is refused

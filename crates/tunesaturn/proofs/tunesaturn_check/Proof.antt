@@ -1,7 +1,7 @@
-use Rattle.abi.proofs.Says.{says-accepted, says-refused}
+use Rattle.tunesaturn.proofs.Says.{says-accepted, says-refused}
 use borrow.Author.Needs.{needs}
-use Rattle.abi.proofs.tunesaturn_check.Statement.{statement}
-use Rattle.abi.proofs.tunesaturn_check.Tie as tie
+use Rattle.tunesaturn.proofs.tunesaturn_check.Statement.{statement}
+use Rattle.tunesaturn.proofs.tunesaturn_check.Tie as tie
 
 check-requires : tie.Need-check-requires
 check-requires c κs = search needs

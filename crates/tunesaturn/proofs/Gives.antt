@@ -1,11 +1,11 @@
 -- An answer gives what a call's outcome has.
 use mathlib.Core.Path.{_≡_, sym, _∙_}
 use Prim.Native.Nat.{ℕ}
-use Rattle.plan.specs.Verdict.{Outcome}
-use Rattle.abi.specs.declared.Answer.{Answer}
-use Rattle.abi.specs.Answers.{Gives}
+use Rattle.plan.specs.Verdict.{CountedAnswer}
+use Rattle.tunesaturn.specs.declared.Answer.{Answer}
+use Rattle.tunesaturn.specs.Answers.{Gives}
 
-module _ {R : Type 0} (outcome : R → Outcome) (a : Answer) (r x : R) (o : Outcome) (q : outcome r ≡ o) (e : r ≡ x) where
+module _ {R : Type 0} (outcome : R → CountedAnswer) (a : Answer) (r x : R) (o : CountedAnswer) (q : outcome r ≡ o) (e : r ≡ x) where
   pub gives : (a .number ≡ outcome x .number) × (a .node ≡ outcome x .node) × (a .count ≡ outcome x .count) → Gives a o
   gives h = rw (sym q, e) (record { number = h .0; node = h .1; total = h .2 })
 

@@ -1,10 +1,10 @@
 use mathlib.Core.Path.{refl}
 use Rattle.rewrite.specs.declared.Rewritten.the-variants.{Words, Refused, OverLimits, NoRoom}
 use Rattle.rewrite.specs.Outcomes.{outcomeOf}
-use Rattle.abi.proofs.Gives.{gives, gives-refused}
+use Rattle.tunesaturn.proofs.Gives.{gives, gives-refused}
 use borrow.Author.Needs.{needs}
-use Rattle.abi.proofs.tunesaturn_rewrite.Statement.{statement}
-use Rattle.abi.proofs.tunesaturn_rewrite.Tie as tie
+use Rattle.tunesaturn.proofs.tunesaturn_rewrite.Statement.{statement}
+use Rattle.tunesaturn.proofs.tunesaturn_rewrite.Tie as tie
 
 rewrite-requires : tie.Need-rewrite-requires
 rewrite-requires c κs = search needs

@@ -1,10 +1,10 @@
 use mathlib.Core.Path.{refl}
 use Rattle.evaluate.specs.declared.Evaluated.the-variants.{Rows, Refused, Database, Limit, Scratch, Output, TooMany, OutOfRange}
 use Rattle.evaluate.specs.Outcomes.{evaluationOf}
-use Rattle.abi.proofs.Gives.{gives, gives-refused}
+use Rattle.tunesaturn.proofs.Gives.{gives, gives-refused}
 use borrow.Author.Needs.{needs}
-use Rattle.abi.proofs.tunesaturn_evaluate.Statement.{statement}
-use Rattle.abi.proofs.tunesaturn_evaluate.Tie as tie
+use Rattle.tunesaturn.proofs.tunesaturn_evaluate.Statement.{statement}
+use Rattle.tunesaturn.proofs.tunesaturn_evaluate.Tie as tie
 
 evaluate-requires : tie.Need-evaluate-requires
 evaluate-requires c κs = search needs

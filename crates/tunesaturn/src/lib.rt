@@ -10,7 +10,7 @@ ghost use Rattle.plan.specs.Verdict.{verdict};
 ghost use lib.ListN.{length};
 ghost use Rattle.rewrite.specs.Answer.{rewriting, outputAfter};
 ghost use Rattle.evaluate.specs.Answer as evaluation;
-ghost use Rattle.abi.specs.Answers.{Says, Gives};
+ghost use Rattle.tunesaturn.specs.Answers.{Says, Gives};
 
 #[repr(C)]
 pub struct Answer {

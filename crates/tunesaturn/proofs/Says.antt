@@ -6,8 +6,8 @@ use Rattle.plan.specs.declared.Verdict.{Verdict}
 use Rattle.plan.specs.declared.Verdict.the-variants.{Accepted, Refused}
 use Rattle.plan.specs.Verdict as plan
 use Rattle.plan.specs.Answers.{refusalOf, answerOf}
-use Rattle.abi.specs.declared.Answer.{Answer}
-use Rattle.abi.specs.Answers.{Says}
+use Rattle.tunesaturn.specs.declared.Answer.{Answer}
+use Rattle.tunesaturn.specs.Answers.{Says}
 
 pub says-accepted : (a : Answer) (v : Verdict) (answer : plan.Answer) → v ≡ Accepted → answerOf v ≡ answer
     → (a .number ≡ 0) × (a .node ≡ 0) × (a .count ≡ 0) → Says a answer 0
