@@ -10,14 +10,13 @@ use Rattle.algebra.specs.Value.{Row}
 use Rattle.plan.specs.Plan.{widthsOf, nodesOf}
 use Rattle.plan.proofs.Promise.{promise}
 use Rattle.store.specs.Cells.{cellsOf}
-use Rattle.working.specs.Run.{Outcome, done, refused}
+use Rattle.working.specs.Run.{Outcome, done, refused, runOf}
 use Rattle.store.specs.Database.{databaseOf}
 use Rattle.evaluate.specs.Answer.{Evaluation, isRun, ended, over, evaluation, outputAfter, scratchAfter}
-use Rattle.working.specs.Running.{runOf}
 use Rattle.working.specs.Statements.{Cause}
 use Rattle.working.proofs.Laws.Run.{run-is-answer, not-both}
 use Rattle.working.proofs.Laws.Causes.{run-cause}
-use Rattle.evaluate.proofs.Laws.Called.{Past, past-all, database-ranging}
+use Rattle.evaluate.proofs.Laws.PastRefusals.{Past, past-all, database-ranging}
 use Rattle.demands.specs.Evaluation.{rowsOf, answered, written, Gives, Stops, Runs, Refuses, Demand}
 
 module _ (ws counts : List ℕ) (cells : List ℤ) (R : ℕ) (scratch out : List ℤ) where

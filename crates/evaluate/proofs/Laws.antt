@@ -1,3 +1,5 @@
-pub mod Called
-pub mod Ending
-pub mod Opening
+pub mod NoRows
+pub mod Output
+pub mod PastRefusals
+pub mod Refusals
+pub mod Root

@@ -1,3 +1,4 @@
 pub mod Bindings
+pub mod Lent
 pub mod Choice
 pub mod Made

@@ -1,29 +1,31 @@
 // Aggregates over chosen rows, from the last row to the first as the definitions go.
-use crate::choice::index;
 use plan::words::position;
 use plan::words::tag;
 use plan::words::wide;
 use store::cells::NULL;
 use store::cells::in_range;
 use store::rows::Block;
+use store::rows::row_number;
 use store::rows::rows;
 ghost use mathlib.Core.Path.{_≡_};
 ghost use mathlib.Core.Bool.{true};
-ghost use mathlib.Core.List.{map};
-ghost use Prim.Native.Nat.{_+_, _*_, _≤_};
+ghost use mathlib.Core.List.{map, []};
+ghost use Prim.Native.Nat.{_+_, _≤_};
 ghost use lib.ListN.{length, take};
-ghost use Rattle.algebra.specs.Lists.{all};
 ghost use Rattle.algebra.specs.Value.{num};
 ghost use Rattle.algebra.specs.Operators.{addUp, better, best, columnOf, aggregated, aggregates};
 ghost use Rattle.plan.specs.Words as spec;
 ghost use Rattle.plan.specs.Items.{aggregateRight, aggregateOf};
-ghost use Rattle.store.specs.Cells.{value, cell, inRange, written};
-ghost use Rattle.store.specs.Rows.{Before, rowOf};
-ghost use Rattle.operators.specs.Choice.{There, Below, Ranged, chosen, aggregatesFrom, inOrder};
+ghost use Rattle.store.specs.Cells.{value, InRange};
+ghost use Rattle.store.specs.Rows.{rowOf, Input};
+ghost use Rattle.operators.specs.Lent.{Space, space};
+ghost use Rattle.operators.specs.Choice.{There, Ranged, chosen, aggregatesFrom, inOrder, Aggregates, Chosen};
+ghost use Rattle.operators.specs.Made.{Puts};
 
 // The sum of column p; 0 of no numbers.
 fn sum_of(rows: &[i64], width: usize, p: usize, found: &[u16], n: usize) -> i64
-    requires { ⌜ (n ≤ length (now found)) × (n ≤ 4096) × There (now rows) width (take n (now found)) × (width ≤ 64) × Ranged (now rows) width (take n (now found)) ⌝ }
+    requires { ⌜ (n ≤ length (now found)) × (n ≤ 4096) × There (now rows) width (take n (now found))
+        × (width ≤ 64) × Ranged (now rows) width (take n (now found)) ⌝ }
     ensures { λ r. ⌜ value r ≡ num (addUp (columnOf p (chosen (now (rows .entry)) width (take n (now (found .entry)))))) ⌝ }
 {
     let mut total: i64 = 0;
@@ -33,7 +35,7 @@ fn sum_of(rows: &[i64], width: usize, p: usize, found: &[u16], n: usize) -> i64
     let mut i = n;
     while 0 < i {
         i -= 1;
-        let x = rows[index(found[i]) * width + p];
+        let x = rows[row_number(found[i]) * width + p];
         if x != NULL {
             total += x;
         }
@@ -53,7 +55,7 @@ fn best_of(rows: &[i64], width: usize, p: usize, found: &[u16], n: usize, least:
     let mut i = n;
     while 0 < i {
         i -= 1;
-        answer = better_cell(rows[index(found[i]) * width + p], answer, least);
+        answer = better_cell(rows[row_number(found[i]) * width + p], answer, least);
     }
     answer
 }
@@ -83,8 +85,10 @@ fn better_cell(a: i64, b: i64, least: bool) -> i64
 // The aggregate of item j over the first n chosen rows.
 fn aggregate_cell(words: &[u32], j: u32, rows: &[i64], width: usize, found: &[u16], n: usize) -> i64
     requires { ⌜ aggregateRight (spec.itemAt (now words) j) ≡ true ⌝ }
-    requires { ⌜ (n ≤ length (now found)) × (n ≤ 4096) × There (now rows) width (take n (now found)) × (width ≤ 64) × Ranged (now rows) width (take n (now found)) ⌝ }
-    ensures { λ r. ⌜ value r ≡ aggregated (aggregateOf (spec.itemAt (now (words .entry)) j)) (chosen (now (rows .entry)) width (take n (now (found .entry)))) ⌝ }
+    requires { ⌜ (n ≤ length (now found)) × (n ≤ 4096) × There (now rows) width (take n (now found))
+        × (width ≤ 64) × Ranged (now rows) width (take n (now found)) ⌝ }
+    ensures { λ r. ⌜ value r ≡ aggregated (aggregateOf (spec.itemAt (now (words .entry)) j))
+        (chosen (now (rows .entry)) width (take n (now (found .entry)))) ⌝ }
 {
     let t = tag(words, j);
     match t {
@@ -107,9 +111,13 @@ pub fn write_aggregates(
     to: usize,
     scratch: &mut [i64],
 ) -> bool
-    requires { ⌜ (j + count ≤ 2000) × (all aggregateRight (spec.itemsFrom (now words) j count) ≡ true) × (to + count ≤ length (now scratch)) ⌝ }
-    requires { ⌜ (n ≤ length (now found)) × (n ≤ 4096) × Below (b .count) (take n (now found)) × Before (now cells) to b × (b .count ≤ 4096) × (b .width ≤ 64) × (all (all inRange) (map (rowOf (now cells) (now scratch) b) (take n (now found))) ≡ true) ⌝ }
-    ensures { λ r. ⌜ (r ≡ all inRange (aggregates (aggregatesFrom (now (words .entry)) j count) (map (rowOf (now (cells .entry)) (now (scratch .entry)) b) (take n (now (found .entry)))))) × (r ≡ true → now (scratch .exit) ≡ written (now (scratch .entry)) to (map cell (aggregates (aggregatesFrom (now (words .entry)) j count) (map (rowOf (now (cells .entry)) (now (scratch .entry)) b) (take n (now (found .entry))))))) ⌝ }
+    ghost { Space }
+    requires { λ s. ⌜ space (now cells) (now scratch) ≡ s ⌝ }
+    requires { λ s. ⌜ Aggregates (now words) j count × (to + count ≤ length (s .scratch)) ⌝ }
+    requires { λ s. ⌜ Input (s .cells) to b × Chosen (b .count) n (now found)
+        × InRange (map (rowOf (s .cells) (s .scratch) b) (take n (now found))) ⌝ }
+    ensures { λ s r. ⌜ Puts [] (aggregates (aggregatesFrom (now (words .entry)) j count)
+        (map (rowOf (s .cells) (s .scratch) b) (take n (now (found .entry))))) to (s .scratch) (now (scratch .exit)) r ⌝ }
 {
     let mut i = 0;
     while i < count {

@@ -1,27 +1,28 @@
 // Group: one row per distinct key list, in order of first appearance; without keys one row.
 use crate::aggregate::write_aggregates;
 use crate::choice::choose_all;
-use crate::choice::index;
-use crate::columns::pick_row;
 use crate::columns::read_positions;
-use crate::columns::split;
+use crate::keys::pick_row;
+use crate::keys::split;
 use crate::made::Made;
 use plan::Plan;
 use plan::words::wide;
-use store::ROWS;
+use store::MOST_ROWS;
 use store::rows::Block;
+use store::rows::row_number;
 use store::rows::rows;
 ghost use mathlib.Core.Path.{_≡_};
 ghost use mathlib.Core.Bool.{true};
 ghost use mathlib.Core.List.{[], _∷_, map};
-ghost use Prim.Native.Nat.{_+_, _*_, _≤_, _<_};
+ghost use Prim.Native.Nat.{_+_, _*_, _≤_};
 ghost use lib.ListN.{length};
 ghost use Rattle.algebra.specs.Lists.{all};
 ghost use Rattle.algebra.specs.Operators.{groupsBy, aggregates};
 ghost use Rattle.plan.specs.Words.{itemsFrom};
 ghost use Rattle.plan.specs.Items.{aggregateRight, positionOf};
-ghost use Rattle.store.specs.Cells.{inRange};
+ghost use Rattle.store.specs.Cells.{InRange};
 ghost use Rattle.store.specs.Rows.{Before, rowsOf};
+ghost use Rattle.operators.specs.Lent.{Space, space};
 ghost use Rattle.operators.specs.Choice.{aggregatesFrom};
 ghost use Rattle.operators.specs.Made.{Makes};
 
@@ -37,9 +38,14 @@ pub fn group_all(
     found: &mut [u16],
     scratch: &mut [i64],
 ) -> Made
-    requires { ⌜ (j + count ≤ 2000) × (all aggregateRight (itemsFrom (now words) j count) ≡ true) × (to + count ≤ length (now scratch)) × (1 ≤ limit) ⌝ }
-    requires { ⌜ Before (now cells) to b × (b .count ≤ 4096) × (b .width ≤ 64) × (all (all inRange) (rowsOf (now cells) (now scratch) b) ≡ true) × (length (now found) ≡ 4096) ⌝ }
-    ensures { λ r. ⌜ Makes limit (aggregates (aggregatesFrom (now (words .entry)) j count) (rowsOf (now (cells .entry)) (now (scratch .entry)) b) ∷ []) to (now (scratch .entry)) (now (scratch .exit)) r ⌝ }
+    ghost { Space }
+    requires { λ s. ⌜ space (now cells) (now scratch) ≡ s ⌝ }
+    requires { λ s. ⌜ (j + count ≤ 2000) × (all aggregateRight (itemsFrom (now words) j count) ≡ true)
+        × (to + count ≤ length (s .scratch)) × (1 ≤ limit) ⌝ }
+    requires { λ s. ⌜ Before (s .cells) to b × (b .count ≤ 4096) × (b .width ≤ 64)
+        × InRange (rowsOf (s .cells) (s .scratch) b) × (length (now found) ≡ 4096) ⌝ }
+    ensures { λ s r. ⌜ Makes limit (aggregates (aggregatesFrom (now (words .entry)) j count) (rowsOf (s .cells) (s .scratch) b) ∷ [])
+        to (s .scratch) (now (scratch .exit)) r ⌝ }
 {
     choose_all(found, b.count);
     if !write_aggregates(words, j, count, cells, b, found, b.count, to, scratch) {
@@ -61,19 +67,25 @@ pub fn group_by(
     found: &mut [u16],
     scratch: &mut [i64],
 ) -> Made
-    requires { ⌜ (j + keys + count ≤ 2000) × (keys + count ≤ 64) × (all aggregateRight (itemsFrom (now words) (j + keys) count) ≡ true) × (to + b .count * (keys + count) ≤ length (now scratch)) × (b .count ≤ limit) × (limit ≤ 4096) ⌝ }
-    requires { ⌜ Before (now cells) to b × (b .width ≤ 64) × (all (all inRange) (rowsOf (now cells) (now scratch) b) ≡ true) × (length (now found) ≡ 4096) ⌝ }
-    ensures { λ r. ⌜ Makes limit (groupsBy (map positionOf (itemsFrom (now (words .entry)) j keys)) (aggregatesFrom (now (words .entry)) (j + keys) count) (rowsOf (now (cells .entry)) (now (scratch .entry)) b)) to (now (scratch .entry)) (now (scratch .exit)) r ⌝ }
+    ghost { Space }
+    requires { λ s. ⌜ space (now cells) (now scratch) ≡ s ⌝ }
+    requires { λ s. ⌜ (j + keys + count ≤ 2000) × (keys + count ≤ 64) × (all aggregateRight (itemsFrom (now words) (j + keys) count) ≡ true)
+        × (to + b .count * (keys + count) ≤ length (s .scratch)) × (b .count ≤ limit) × (limit ≤ 4096) ⌝ }
+    requires { λ s. ⌜ Before (s .cells) to b × (b .width ≤ 64)
+        × InRange (rowsOf (s .cells) (s .scratch) b) × (length (now found) ≡ 4096) ⌝ }
+    ensures { λ s r. ⌜ Makes limit (groupsBy (map positionOf (itemsFrom (now (words .entry)) j keys))
+        (aggregatesFrom (now (words .entry)) (j + keys) count) (rowsOf (s .cells) (s .scratch) b))
+        to (s .scratch) (now (scratch .exit)) r ⌝ }
 {
     let mut positions = [0u32; Plan::WIDTH as usize];
     read_positions(words, j, keys, &mut positions);
-    let mut rest = [0u16; ROWS as usize];
+    let mut rest = [0u16; MOST_ROWS as usize];
     choose_all(&mut rest, b.count);
     let width = wide(keys) + wide(count);
     let mut left = b.count;
     let mut groups = 0;
     while 0 < left {
-        let k = index(rest[0]);
+        let k = row_number(rest[0]);
         let lent = &scratch[..];
         let parts = split(
             rows(cells, lent, b),

@@ -1,10 +1,11 @@
 pub mod outer; // outer rows
-pub mod operand; // terms, and the tests of two cells
-pub mod choice; // the rows that pass
 pub mod made; // what an operator answers
-pub mod aggregate; // count, sum, min, max
-pub mod columns; // output columns and keys
+pub mod columns; // output columns
 pub mod select; // select and map
 pub mod group; // group
 pub mod join; // join
 pub mod groupjoin; // groupjoin
+mod operand; // terms, and the tests of two cells
+mod choice; // the rows that pass
+mod aggregate; // count, sum, min, max
+mod keys; // the columns of a row at some positions

@@ -1,8 +1,9 @@
 pub mod Domains
 pub mod Limits
-pub mod Moved
+pub mod MovedItems
 pub mod Output
 pub mod Pages
 pub mod Sets
-pub mod Small
+pub mod SmallPositions
+pub mod Words
 pub mod Writer

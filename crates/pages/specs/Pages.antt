@@ -42,6 +42,10 @@ Added items items′ c c′ new =
 
 -- ---- one node more
 
+-- a node's words without its items
+abbrev pub headOf : ℕ → ℕ → ℕ → ℕ → Head
+headOf o l r k = record { operator = o; left = l; right = r; kind = k }
+
 -- the width of a node with operator o, inputs l and r, kind k and count items; extra is a scan's table width, a groupjoin's number of aggregates
 unfoldable pub widthBy : (ℕ → ℕ) → ℕ → ℕ → ℕ → ℕ → ℕ → ℕ → ℕ
 widthBy at o l r k count extra =
@@ -76,10 +80,24 @@ Pushed nodes nodes′ rows rows′ c c′ first head extra =
     (widths items : List ℕ) (out : List Node) (n : Node) → Page widths nodes items rows c out (parts n .items) → Headed widths out c first head extra n
     → Page widths nodes′ items rows′ c′ (out ++ (n ∷ [])) []
 
+-- ---- what has been written before a call and after it
+
+pub record Sheet : Type 0 where
+  pub nodes : List ℕ
+  pub items : List ℕ
+  pub rows : List ℕ
+  pub cursor : Cursor
+
+abbrev pub sheet : List ℕ → List ℕ → List ℕ → Cursor → Sheet
+sheet nodes items rows c = record { nodes = nodes; items = items; rows = rows; cursor = c }
+
+-- the sheet has the nodes out, or it was too much
+abbrev pub Carries : List ℕ → Sheet → List Node → Type 0
+Carries widths s out = Page widths (s .nodes) (s .items) (s .rows) (s .cursor) out []
+
 -- the nodes out have become f out
-abbrev pub Grows : List ℕ → List ℕ → List ℕ → List ℕ → List ℕ → List ℕ → Cursor → Cursor → (List Node → List Node) → Type 0
-Grows nodes nodes′ items items′ rows rows′ c c′ f =
-    (widths : List ℕ) (out : List Node) → Page widths nodes items rows c out [] → Page widths nodes′ items′ rows′ c′ (f out) []
+abbrev pub Grows : Sheet → Sheet → (List Node → List Node) → Type 0
+Grows s s′ f = (widths : List ℕ) (out : List Node) → Carries widths s out → Carries widths s′ (f out)
 
 -- node i is there and has width w
 pub record Stands (widths : List ℕ) (out : List Node) (i w : ℕ) : Type 0 where
@@ -87,15 +105,14 @@ pub record Stands (widths : List ℕ) (out : List Node) (i w : ℕ) : Type 0 whe
   pub width : shapeAt widths out i .width ≡ w
 
 -- the same over the widths of one plan's tables
-abbrev pub GrowsOver : List ℕ → List ℕ → List ℕ → List ℕ → List ℕ → List ℕ → List ℕ → Cursor → Cursor → (List Node → List Node) → Type 0
-GrowsOver widths nodes nodes′ items items′ rows rows′ c c′ f =
-    (out : List Node) → Page widths nodes items rows c out [] → Page widths nodes′ items′ rows′ c′ (f out) []
+abbrev pub GrowsOver : List ℕ → Sheet → Sheet → (List Node → List Node) → Type 0
+GrowsOver widths s s′ f = (out : List Node) → Carries widths s out → Carries widths s′ (f out)
 
 -- the join that is the last node has its project behind it, where its kind has one
-abbrev pub Drops : ℕ → ℕ → ℕ → ℕ → List ℕ → List ℕ → List ℕ → List ℕ → List ℕ → List ℕ → Cursor → Cursor → Type 0
-Drops k n m w nodes nodes′ items items′ rows rows′ c c′ =
-    (widths : List ℕ) (out : List Node) (x : Node) → Page widths nodes items rows c (out ++ (x ∷ [])) []
-    → Page widths nodes′ items′ rows′ c′ (dropping (kindOf k) (around n m w) (emit x out) .out) []
+abbrev pub Drops : ℕ → ℕ → ℕ → ℕ → Sheet → Sheet → Type 0
+Drops k n m w s s′ =
+    (widths : List ℕ) (out : List Node) (x : Node) → Carries widths s (out ++ (x ∷ []))
+    → Carries widths s′ (dropping (kindOf k) (around n m w) (emit x out) .out)
 
 -- ---- whole plans
 

@@ -2,27 +2,14 @@
 use crate::page::Cursor;
 use crate::page::ItemWords;
 use crate::page::NodeWords;
+use crate::words::copy_words;
 use plan::words::tables;
 use plan::words::wide;
 ghost use mathlib.Core.Path.{_≡_};
 ghost use mathlib.Core.List.{_++_};
-ghost use Prim.Native.Nat.{_+_, _*_, _≤_};
 ghost use lib.ListN.{length, drop};
-ghost use lib.Seq.{paste};
 ghost use Rattle.plan.specs.Words as spec;
-ghost use Rattle.pages.specs.Output.{total, table};
-
-// count words of from, written from place at on.
-fn copy_words(out: &mut [u32], at: usize, from: &[u32], count: usize)
-    requires { ⌜ (at + count ≤ length (now out)) × (count ≤ length (now from)) ⌝ }
-    ensures { λ _. ⌜ now (out .exit) ≡ paste (now (out .entry)) at (now (from .entry)) count ⌝ }
-{
-    let mut i = 0;
-    while i < count {
-        out[at + i] = from[i];
-        i += 1;
-    }
-}
+ghost use Rattle.pages.specs.Output.{total, table, Writable};
 
 // How many words a plan with the tables of words and so many nodes and items has.
 pub fn total_words(words: &[u32], c: Cursor) -> usize
@@ -33,8 +20,9 @@ pub fn total_words(words: &[u32], c: Cursor) -> usize
 
 // Header, table widths, nodes and items.
 pub fn write_table(words: &[u32], c: Cursor, nodes: &NodeWords, items: &ItemWords, out: &mut [u32])
-    requires { ⌜ (8 + spec.tables (now words) ≤ length (now words)) × (spec.tables (now words) ≤ 16) × (c .nodes ≤ 256) × (c .items ≤ 2000) × (total (spec.tables (now words)) (c .nodes) (c .items) ≤ length (now out)) ⌝ }
-    ensures { λ _. ⌜ now (out .exit) ≡ table (now (words .entry)) (c .nodes) (c .items) (now (nodes .entry)) (now (items .entry)) ++ drop (total (spec.tables (now (words .entry))) (c .nodes) (c .items)) (now (out .entry)) ⌝ }
+    requires { ⌜ Writable (now words) (c .nodes) (c .items) (length (now out)) ⌝ }
+    ensures { λ _. ⌜ now (out .exit) ≡ table (now (words .entry)) (c .nodes) (c .items) (now (nodes .entry)) (now (items .entry))
+        ++ drop (total (spec.tables (now (words .entry))) (c .nodes) (c .items)) (now (out .entry)) ⌝ }
 {
     let t = tables(words);
     let n = c.nodes;

@@ -1,13 +1,14 @@
 // What has been written: how many nodes and items, and whether all of it is within the limits.
+use crate::words::copy_words;
 use plan::PerNode;
 use plan::Plan;
 use plan::words::wide;
 ghost use mathlib.Core.Path.{_≡_};
+ghost use mathlib.Core.Bool.{false};
 ghost use mathlib.Core.List.{[], _∷_};
-ghost use Prim.Native.Nat.{_+_, _-_, _≤_, pred};
-ghost use lib.ListN.{length, getD};
-ghost use lib.Seq.{sets};
-ghost use Rattle.pages.specs.Pages.{Added, widthBy, Pushed};
+ghost use Prim.Native.Nat.{_-_, pred};
+ghost use lib.ListN.{getD};
+ghost use Rattle.pages.specs.Pages.{Added, widthBy, headOf, Pushed};
 
 // The words of all nodes and of all items that there may be.
 pub type NodeWords = [u32; 6 * Plan::NODES as usize];
@@ -23,6 +24,17 @@ pub struct Cursor {
     pub ok: bool,
 }
 
+// The same, and what comes next is over a limit.
+fn too_much(c: Cursor) -> Cursor
+    ensures { λ r. ⌜ (r .nodes ≡ c .nodes) × (r .items ≡ c .items) × (r .ok ≡ false) ⌝ }
+{
+    Cursor {
+        nodes: c.nodes,
+        items: c.items,
+        ok: false,
+    }
+}
+
 // The three words of a term.
 pub struct Three {
     pub code: u32,
@@ -30,36 +42,28 @@ pub struct Three {
     pub value: u32,
 }
 
-// The seven words of an item, from word at on.
-fn put_item(words: &mut [u32], at: usize, tag: u32, first: Three, second: Three)
-    requires { ⌜ at + 7 ≤ length (now words) ⌝ }
-    ensures { λ _. ⌜ now (words .exit) ≡ sets (now (words .entry)) at (tag ∷ first .code ∷ first .level ∷ first .value ∷ second .code ∷ second .level ∷ second .value ∷ []) ⌝ }
-{
-    words[at] = tag;
-    words[at + 1] = first.code;
-    words[at + 2] = first.level;
-    words[at + 3] = first.value;
-    words[at + 4] = second.code;
-    words[at + 5] = second.level;
-    words[at + 6] = second.value;
-}
-
 // One item more.
 pub fn push_item(items: &mut ItemWords, c: Cursor, tag: u32, first: Three, second: Three) -> Cursor
-    ensures { λ r. ⌜ Added (now (items .entry)) (now (items .exit)) c r ((tag ∷ first .code ∷ first .level ∷ first .value ∷ second .code ∷ second .level ∷ second .value ∷ []) ∷ []) ⌝ }
+    ensures { λ r. ⌜ Added (now (items .entry)) (now (items .exit)) c r
+        ((tag ∷ first .code ∷ first .level ∷ first .value ∷ second .code ∷ second .level ∷ second .value ∷ []) ∷ []) ⌝ }
 {
     if !c.ok {
         return c;
     }
     let i = c.items;
     if Plan::ITEMS <= i {
-        return Cursor {
-            nodes: c.nodes,
-            items: i,
-            ok: false,
-        };
+        return too_much(c);
     }
-    put_item(items, 7 * wide(i), tag, first, second);
+    let item = [
+        tag,
+        first.code,
+        first.level,
+        first.value,
+        second.code,
+        second.level,
+        second.value,
+    ];
+    copy_words(items, 7 * wide(i), &item, 7);
     Cursor {
         nodes: c.nodes,
         items: i + 1,
@@ -73,6 +77,53 @@ pub struct Head {
     pub left: u32,
     pub right: u32,
     pub kind: u32,
+}
+
+impl Head {
+    pub fn scan(table: u32) -> Head
+        ensures { λ r. ⌜ r ≡ headOf 1 table 0 0 ⌝ }
+    {
+        Head {
+            operator: 1,
+            left: table,
+            right: 0,
+            kind: 0,
+        }
+    }
+
+    // Select, map, project and group.
+    pub fn over(operator: u32, input: u32) -> Head
+        ensures { λ r. ⌜ r ≡ headOf operator input 0 0 ⌝ }
+    {
+        Head {
+            operator,
+            left: input,
+            right: 0,
+            kind: 0,
+        }
+    }
+
+    pub fn join(kind: u32, left: u32, right: u32) -> Head
+        ensures { λ r. ⌜ r ≡ headOf 5 left right kind ⌝ }
+    {
+        Head {
+            operator: 5,
+            left,
+            right,
+            kind,
+        }
+    }
+
+    pub fn groupjoin(left: u32, right: u32) -> Head
+        ensures { λ r. ⌜ r ≡ headOf 7 left right 0 ⌝ }
+    {
+        Head {
+            operator: 7,
+            left,
+            right,
+            kind: 0,
+        }
+    }
 }
 
 // The width of node i, 0 where there is none.
@@ -106,19 +157,6 @@ fn new_width(rows: &[u32], head: Head, count: u32, extra: u32) -> usize
     }
 }
 
-// The six words of a node, from word at on.
-fn put_node(words: &mut [u32], at: usize, head: Head, first: u32, count: u32)
-    requires { ⌜ at + 6 ≤ length (now words) ⌝ }
-    ensures { λ _. ⌜ now (words .exit) ≡ sets (now (words .entry)) at (head .operator ∷ head .left ∷ head .right ∷ head .kind ∷ first ∷ count ∷ []) ⌝ }
-{
-    words[at] = head.operator;
-    words[at + 1] = head.left;
-    words[at + 2] = head.right;
-    words[at + 3] = head.kind;
-    words[at + 4] = first;
-    words[at + 5] = count;
-}
-
 // How many items there are from item first on, where there are n in all.
 fn items_from(first: u32, n: u32) -> u32
     ensures { λ r. ⌜ r ≡ n - first ⌝ }
@@ -146,18 +184,21 @@ pub fn push_node(
     let n = c.nodes;
     let count = items_from(first, c.items);
     let w = new_width(rows, head, count, extra);
-    let over = Cursor {
-        nodes: n,
-        items: c.items,
-        ok: false,
-    };
     if Plan::NODES <= n {
-        return over;
+        return too_much(c);
     }
     if WIDEST < w {
-        return over;
+        return too_much(c);
     }
-    put_node(nodes, 6 * wide(n), head, first, count);
+    let node = [
+        head.operator,
+        head.left,
+        head.right,
+        head.kind,
+        first,
+        count,
+    ];
+    copy_words(nodes, 6 * wide(n), &node, 6);
     rows[wide(n)] = w as u32;
     Cursor {
         nodes: n + 1,

@@ -4,29 +4,29 @@ ghost use Prim.Native.Nat.{_^_, _<_, _≤_};
 ghost use lib.Bits.{bitOr};
 ghost use Rattle.pages.specs.Sets as spec;
 
-pub fn with(s: u64, p: u32) -> u64
-    requires { ⌜ p < 64 ⌝ }
-    ensures { λ r. ⌜ r ≡ bitOr s (2 ^ p) ⌝ }
+pub fn with(set: u64, position: u32) -> u64
+    requires { ⌜ position < 64 ⌝ }
+    ensures { λ r. ⌜ r ≡ bitOr set (2 ^ position) ⌝ }
 {
-    s | (1u64 << p)
+    set | (1u64 << position)
 }
 
-pub fn has(s: u64, p: u32) -> bool
-    ensures { λ r. ⌜ r ≡ spec.inSet s p ⌝ }
+pub fn has(set: u64, position: u32) -> bool
+    ensures { λ r. ⌜ r ≡ spec.inSet set position ⌝ }
 {
-    if p < 64 {
-        return (s >> p) % 2 == 1;
+    if position < 64 {
+        return (set >> position) % 2 == 1;
     }
     false
 }
 
-// How many of s stand below p.
-pub fn rank(s: u64, p: u32) -> u32
-    ensures { λ r. ⌜ r ≡ spec.rank s p ⌝ }
+// How many of set stand below position.
+pub fn rank(set: u64, position: u32) -> u32
+    ensures { λ r. ⌜ r ≡ spec.rank set position ⌝ }
     ensures { λ r. ⌜ r ≤ 64 ⌝ }
 {
-    if p < 64 {
-        return u64::count_ones(s % (1u64 << p));
+    if position < 64 {
+        return u64::count_ones(set % (1u64 << position));
     }
-    u64::count_ones(s)
+    u64::count_ones(set)
 }

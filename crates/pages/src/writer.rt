@@ -34,31 +34,31 @@ fn local(position: u32) -> Three
     }
 }
 
-// A tag 7 for each of d columns, the other one behind n others.
-pub fn matches(items: &mut ItemWords, c: Cursor, d: u32, n: u32) -> Cursor
-    requires { ⌜ (d ≤ 64) × (n ≤ 1000) ⌝ }
-    ensures { λ r. ⌜ Added (now (items .entry)) (now (items .exit)) c r (map conjunctWords (algebra.match (λ q. q) (λ q. n + q) (upto d))) ⌝ }
+// A tag 7 for each of count columns, the other one behind others.
+pub fn matches(items: &mut ItemWords, c: Cursor, count: u32, behind: u32) -> Cursor
+    requires { ⌜ (count ≤ 64) × (behind ≤ 1000) ⌝ }
+    ensures { λ r. ⌜ Added (now (items .entry)) (now (items .exit)) c r (map conjunctWords (algebra.match (λ q. q) (λ q. behind + q) (upto count))) ⌝ }
 {
     let mut c = c;
     let mut i = 0;
-    while i < d {
-        c = push_item(items, c, 7, local(i), local(n + i));
+    while i < count {
+        c = push_item(items, c, 7, local(i), local(behind + i));
         i += 1;
     }
     c
 }
 
-// A tag 7 for each column of set, the other one at its place behind n others.
-pub fn set_matches(items: &mut ItemWords, c: Cursor, set: u64, n: u32) -> Cursor
-    requires { ⌜ n ≤ 1000 ⌝ }
-    ensures { λ r. ⌜ Added (now (items .entry)) (now (items .exit)) c r (map conjunctWords (algebra.match (λ q. q) (λ q. n + algebra.below (members set) q) (members set))) ⌝ }
+// A tag 7 for each column of set, the other one at its place behind others.
+pub fn set_matches(items: &mut ItemWords, c: Cursor, set: u64, behind: u32) -> Cursor
+    requires { ⌜ behind ≤ 1000 ⌝ }
+    ensures { λ r. ⌜ Added (now (items .entry)) (now (items .exit)) c r (map conjunctWords (algebra.match (λ q. q) (λ q. behind + algebra.below (members set) q) (members set))) ⌝ }
 {
     let mut c = c;
     let mut found = 0;
     let mut q = 0;
     while q < 64 {
         if has(set, q) {
-            c = push_item(items, c, 7, local(q), local(n + found));
+            c = push_item(items, c, 7, local(q), local(behind + found));
             found += 1;
         }
         q += 1;
@@ -66,15 +66,15 @@ pub fn set_matches(items: &mut ItemWords, c: Cursor, set: u64, n: u32) -> Cursor
     c
 }
 
-// Keys or output columns: n columns from a on.
-pub fn columns(items: &mut ItemWords, c: Cursor, tag: u32, a: u32, n: u32) -> Cursor
-    requires { ⌜ a + n ≤ 1000 ⌝ }
-    ensures { λ r. ⌜ Added (now (items .entry)) (now (items .exit)) c r (map (positionWords tag) (algebra.span a n)) ⌝ }
+// Keys or output columns: count columns from one on.
+pub fn columns(items: &mut ItemWords, c: Cursor, tag: u32, from: u32, count: u32) -> Cursor
+    requires { ⌜ from + count ≤ 1000 ⌝ }
+    ensures { λ r. ⌜ Added (now (items .entry)) (now (items .exit)) c r (map (positionWords tag) (algebra.span from count)) ⌝ }
 {
     let mut c = c;
     let mut i = 0;
-    while i < n {
-        c = push_item(items, c, tag, local(a + i), local(0));
+    while i < count {
+        c = push_item(items, c, tag, local(from + i), local(0));
         i += 1;
     }
     c
@@ -98,7 +98,8 @@ pub fn set_keys(items: &mut ItemWords, c: Cursor, set: u64) -> Cursor
 // The term whose three words begin at word k of item j, as they stand.
 fn three(words: &[u32], j: u32, k: u32) -> Three
     requires { ⌜ k ≤ 4 ⌝ }
-    ensures { λ r. ⌜ (r .code ≡ spec.itemWord (now (words .entry)) j k) × (r .level ≡ spec.itemWord (now (words .entry)) j (k + 1)) × (r .value ≡ spec.itemWord (now (words .entry)) j (k + 2)) ⌝ }
+    ensures { λ r. ⌜ (r .code ≡ spec.itemWord (now (words .entry)) j k)
+        × (r .level ≡ spec.itemWord (now (words .entry)) j (k + 1)) × (r .value ≡ spec.itemWord (now (words .entry)) j (k + 2)) ⌝ }
 {
     Three {
         code: item_word(words, j, k),
@@ -108,14 +109,14 @@ fn three(words: &[u32], j: u32, k: u32) -> Three
 }
 
 // Items as they stand.
-pub fn copied(words: &[u32], items: &mut ItemWords, c: Cursor, a: u32, count: u32) -> Cursor
-    requires { ⌜ a + count ≤ 2000 ⌝ }
-    ensures { λ r. ⌜ Added (now (items .entry)) (now (items .exit)) c r (map itemWords (spec.itemsFrom (now (words .entry)) a count)) ⌝ }
+pub fn copied(words: &[u32], items: &mut ItemWords, c: Cursor, from: u32, count: u32) -> Cursor
+    requires { ⌜ from + count ≤ 2000 ⌝ }
+    ensures { λ r. ⌜ Added (now (items .entry)) (now (items .exit)) c r (map itemWords (spec.itemsFrom (now (words .entry)) from count)) ⌝ }
 {
     let mut c = c;
     let mut i = 0;
     while i < count {
-        let j = a + i;
+        let j = from + i;
         c = push_item(
             items,
             c,
@@ -128,26 +129,26 @@ pub fn copied(words: &[u32], items: &mut ItemWords, c: Cursor, a: u32, count: u3
     c
 }
 
-// Keys, output columns and aggregates, each column behind d others.
+// Keys, output columns and aggregates, each column behind those in front.
 pub fn shifted(
     words: &[u32],
     items: &mut ItemWords,
     c: Cursor,
-    a: u32,
+    from: u32,
     count: u32,
-    d: u32,
+    front: u32,
 ) -> Cursor
-    requires { ⌜ (a + count ≤ 2000) × (d ≤ 64) × ((i : ℕ) → i < count → spec.itemWord (now words) (a + i) 3 < 1000) ⌝ }
-    ensures { λ r. ⌜ Added (now (items .entry)) (now (items .exit)) c r (map (shiftedWords d) (spec.itemsFrom (now (words .entry)) a count)) ⌝ }
+    requires { ⌜ (from + count ≤ 2000) × (front ≤ 64) × ((i : ℕ) → i < count → spec.itemWord (now words) (from + i) 3 < 1000) ⌝ }
+    ensures { λ r. ⌜ Added (now (items .entry)) (now (items .exit)) c r (map (shiftedWords front) (spec.itemsFrom (now (words .entry)) from count)) ⌝ }
 {
     let mut c = c;
     let mut i = 0;
     while i < count {
-        let j = a + i;
+        let j = from + i;
         let t = tag(words, j);
         let mut p = 0;
         if t != 13 {
-            p = d + position(words, j);
+            p = front + position(words, j);
         }
         c = push_item(items, c, t, local(p), local(0));
         i += 1;
@@ -155,26 +156,35 @@ pub fn shifted(
     c
 }
 
-// A local position of a left row of width w then a right row, with x columns in front of the left and y in front of the right.
-fn both(p: u32, w: u32, x: u32, y: u32) -> u32
-    requires { ⌜ (p < 1000) × (x ≤ 1000) × (y ≤ 1000) ⌝ }
-    ensures { λ r. ⌜ r ≡ algebra.shiftBoth w x y p ⌝ }
+// A local position of a left row of some width then a right row, with columns in front of the left and more between the two.
+fn both(position: u32, width: u32, front: u32, between: u32) -> u32
+    requires { ⌜ (position < 1000) × (front ≤ 1000) × (between ≤ 1000) ⌝ }
+    ensures { λ r. ⌜ r ≡ algebra.shiftBoth width front between position ⌝ }
 {
-    if p < w {
-        return x + p;
+    if position < width {
+        return front + position;
     }
-    x + y + p
+    front + between + position
 }
 
 // A term, moved.
-fn moved_three(words: &[u32], j: u32, k: u32, d: Domain, w: u32, x: u32, y: u32) -> Three
-    requires { ⌜ (k ≤ 4) × (x ≤ 1000) × (y ≤ 1000) × (termRight (spec.threeAt (now words) j k) ≡ true) × Small (spec.threeAt (now words) j k) ⌝ }
-    ensures { λ r. ⌜ ((D : algebra.Domain) → Means d D → (r .code ∷ r .level ∷ r .value ∷ []) ≡ termWords (algebra.moveTerm D (algebra.shiftBoth w x y) (termOf (spec.threeAt (now (words .entry)) j k)))) ⌝ }
+fn moved_three(
+    words: &[u32],
+    j: u32,
+    k: u32,
+    d: Domain,
+    width: u32,
+    front: u32,
+    between: u32,
+) -> Three
+    requires { ⌜ (k ≤ 4) × (front ≤ 1000) × (between ≤ 1000) × (termRight (spec.threeAt (now words) j k) ≡ true) × Small (spec.threeAt (now words) j k) ⌝ }
+    ensures { λ r. ⌜ ((D : algebra.Domain) → Means d D → (r .code ∷ r .level ∷ r .value ∷ [])
+        ≡ termWords (algebra.moveTerm D (algebra.shiftBoth width front between) (termOf (spec.threeAt (now (words .entry)) j k)))) ⌝ }
 {
     let t = three(words, j, k);
     let code = t.code;
     match code {
-        0 => local(both(t.value, w, x, y)),
+        0 => local(both(t.value, width, front, between)),
         1 => local(place(d, t.level, t.value)),
         _ => t,
     }
@@ -187,19 +197,26 @@ fn moved_item(
     c: Cursor,
     j: u32,
     d: Domain,
-    w: u32,
-    x: u32,
-    y: u32,
+    width: u32,
+    front: u32,
+    between: u32,
 ) -> Cursor
-    requires { ⌜ (x ≤ 1000) × (y ≤ 1000) × Movable (spec.itemAt (now words) j) ⌝ }
-    ensures { λ r. ⌜ ((D : algebra.Domain) → Means d D → Added (now (items .entry)) (now (items .exit)) c r (movedWords D (algebra.shiftBoth w x y) (spec.itemAt (now (words .entry)) j) ∷ [])) ⌝ }
+    requires { ⌜ (front ≤ 1000) × (between ≤ 1000) × Movable (spec.itemAt (now words) j) ⌝ }
+    ensures { λ r. ⌜ ((D : algebra.Domain) → Means d D → Added (now (items .entry)) (now (items .exit)) c r
+        (movedWords D (algebra.shiftBoth width front between) (spec.itemAt (now (words .entry)) j) ∷ [])) ⌝ }
 {
     let t = tag(words, j);
-    let first = moved_three(words, j, 1, d, w, x, y);
+    let first = moved_three(words, j, 1, d, width, front, between);
     if t == 8 {
         return push_item(items, c, t, first, local(0));
     }
-    push_item(items, c, t, first, moved_three(words, j, 4, d, w, x, y))
+    push_item(
+        items,
+        c,
+        t,
+        first,
+        moved_three(words, j, 4, d, width, front, between),
+    )
 }
 
 // Conjuncts or a computation, moved.
@@ -207,20 +224,21 @@ pub fn moved(
     words: &[u32],
     items: &mut ItemWords,
     c: Cursor,
-    a: u32,
+    from: u32,
     count: u32,
     d: Domain,
-    w: u32,
-    x: u32,
-    y: u32,
+    width: u32,
+    front: u32,
+    between: u32,
 ) -> Cursor
-    requires { ⌜ (a + count ≤ 2000) × (x ≤ 1000) × (y ≤ 1000) × ((i : ℕ) → i < count → Movable (spec.itemAt (now words) (a + i))) ⌝ }
-    ensures { λ r. ⌜ ((D : algebra.Domain) → Means d D → Added (now (items .entry)) (now (items .exit)) c r (map (movedWords D (algebra.shiftBoth w x y)) (spec.itemsFrom (now (words .entry)) a count))) ⌝ }
+    requires { ⌜ (from + count ≤ 2000) × (front ≤ 1000) × (between ≤ 1000) × ((i : ℕ) → i < count → Movable (spec.itemAt (now words) (from + i))) ⌝ }
+    ensures { λ r. ⌜ ((D : algebra.Domain) → Means d D → Added (now (items .entry)) (now (items .exit)) c r
+        (map (movedWords D (algebra.shiftBoth width front between)) (spec.itemsFrom (now (words .entry)) from count))) ⌝ }
 {
     let mut c = c;
     let mut i = 0;
     while i < count {
-        c = moved_item(words, items, c, a + i, d, w, x, y);
+        c = moved_item(words, items, c, from + i, d, width, front, between);
         i += 1;
     }
     c

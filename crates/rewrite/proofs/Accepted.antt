@@ -35,8 +35,8 @@ use Rattle.plan.proofs.Laws.Numbered.{every-all, numbered-length}
 use Rattle.plan.proofs.Laws.Verdict.{from4, from5, from6, from7, past-limits, refused-later}
 use Rattle.rewrite.specs.Answer.{newPlan, newWords, withinLimits}
 use Rattle.algebra.proofs.Tables.Fine.{inputs-under}
-use Rattle.rewrite.proofs.Laws.Pieces.{columns-there}
-use Rattle.rewrite.proofs.Laws.Local.{ordered-all, ordered-levelled, sensible-placed, tidy-node}
+use Rattle.rewrite.proofs.Laws.PlanPieces.{columns-there}
+use Rattle.rewrite.proofs.Laws.LocalColumns.{ordered-all, ordered-levelled, sensible-placed, tidy-node}
 use Rattle.rewrite.proofs.Laws.Sensible.{Fit, plan-fits}
 use Rattle.rewrite.proofs.Laws.SensibleWritten.{rewritten-fits}
 use Rattle.rewrite.proofs.Laws.Unchanged.{plain-operator, plan-unchanged}

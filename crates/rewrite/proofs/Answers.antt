@@ -6,7 +6,7 @@ use Rattle.plan.specs.declared.Refusal.the-variants.{Header, Limits, Malformed,
 use Rattle.rewrite.specs.declared.Rewritten.{Rewritten}
 use Rattle.rewrite.specs.declared.Rewritten.the-variants.{Words, Refused, OverLimits, NoRoom}
 use Rattle.plan.specs.Verdict.{CountedAnswer}
-use Rattle.rewrite.specs.Outcomes.{outcomeOf}
+use Rattle.rewrite.specs.Outcomes.{rewritingOf}
 
 -- the answer that a number, a node and a count name
 abbrev rewrittenFrom : CountedAnswer → Rewritten
@@ -21,7 +21,7 @@ rewrittenFrom a =
     (cond (eqb (a .number) 7) (Refused (NoColumn (a .node)))
     (cond (eqb (a .number) 8) OverLimits NoRoom))))))))
 
-named : (r : Rewritten) → rewrittenFrom (outcomeOf r) ≡ r
+named : (r : Rewritten) → rewrittenFrom (rewritingOf r) ≡ r
 named (Words n) = refl
 named (Refused Header) = refl
 named (Refused Limits) = refl
@@ -33,5 +33,5 @@ named (Refused (NoColumn n)) = refl
 named OverLimits = refl
 named NoRoom = refl
 
-pub one-answer : (r s : Rewritten) → outcomeOf r ≡ outcomeOf s → r ≡ s
+pub one-answer : (r s : Rewritten) → rewritingOf r ≡ rewritingOf s → r ≡ s
 one-answer r s e = sym (named r) ∙ ap rewrittenFrom e ∙ named s

@@ -1,10 +1,10 @@
 pub mod Answer
-pub mod Closed
+pub mod ClosedNodes
 pub mod ColumnsThere
-pub mod Local
-pub mod Pieces
+pub mod FirstNodes
+pub mod LocalColumns
+pub mod PieceShapes
+pub mod PlanPieces
 pub mod Sensible
 pub mod SensibleWritten
-pub mod Shaped
-pub mod Steps
 pub mod Unchanged

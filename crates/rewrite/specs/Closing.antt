@@ -8,8 +8,7 @@ use Rattle.algebra.specs.Plan.{Node}
 use Rattle.algebra.specs.Columns.{shapeAt, closed}
 use Rattle.algebra.specs.Rewriting.{Placed, closedNode}
 use Rattle.plan.specs.Plan.{nodeAt, widthsOf, nodesOf}
-use Rattle.pages.specs.declared.page.Cursor.{Cursor}
-use Rattle.pages.specs.Pages.{Stands, Page}
+use Rattle.pages.specs.Pages.{Stands, Sheet, Carries}
 use Rattle.rules.specs.Under.{piece}
 
 -- the copies of the closed nodes below n stand among the nodes out, with their widths
@@ -22,7 +21,7 @@ abbrev pub closing : List ℕ → (ℕ → ℕ) → ℕ → List Node → Placed
 closing ws images n out = closedNode (λ i. piece ws images (suc i) i) (nodeAt ws n) out
 
 -- the nodes out have become those with the closed node n; what is over a limit stays so
-pub record Closes (ws images : List ℕ) (n : ℕ) (nodes nodes′ items items′ rows rows′ : List ℕ) (c c′ : Cursor) : Type 0 where
-  pub written : (out : List Node) → Copies ws (λ i. getD images i 0) n out → Page (widthsOf ws) nodes items rows c out []
-      → Page (widthsOf ws) nodes′ items′ rows′ c′ (closing ws (λ i. getD images i 0) n out .out) []
-  pub stays : c .ok ≡ false → c′ .ok ≡ false
+pub record Closes (ws images : List ℕ) (n : ℕ) (s s′ : Sheet) : Type 0 where
+  pub written : (out : List Node) → Copies ws (λ i. getD images i 0) n out → Carries (widthsOf ws) s out
+      → Carries (widthsOf ws) s′ (closing ws (λ i. getD images i 0) n out .out)
+  pub stays : s .cursor .ok ≡ false → s′ .cursor .ok ≡ false

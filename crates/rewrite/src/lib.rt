@@ -15,7 +15,7 @@ ghost use mathlib.Core.Path.{_≡_};
 ghost use lib.ListN.{length};
 ghost use Rattle.plan.specs.Verdict.{verdict, accepted};
 ghost use Rattle.rewrite.specs.Answer.{rewriting, outputAfter};
-ghost use Rattle.rewrite.specs.Outcomes.{outcomeOf};
+ghost use Rattle.rewrite.specs.Outcomes.{rewritingOf};
 
 pub enum Rewritten {
     Words(u32),
@@ -27,7 +27,7 @@ pub enum Rewritten {
 // An accepted plan.
 fn rewrite_accepted(words: &[u32], out: &mut [u32]) -> Rewritten
     requires { ⌜ verdict (now words) ≡ accepted ⌝ }
-    ensures { λ r. ⌜ outcomeOf r ≡ rewriting (now (words .entry)) (length (now (out .entry))) ⌝ }
+    ensures { λ r. ⌜ rewritingOf r ≡ rewriting (now (words .entry)) (length (now (out .entry))) ⌝ }
     ensures { λ _. ⌜ now (out .exit) ≡ outputAfter (now (words .entry)) (now (out .entry)) ⌝ }
 {
     let widths = work_out_widths(words);
@@ -45,12 +45,13 @@ fn rewrite_accepted(words: &[u32], out: &mut [u32]) -> Rewritten
         return Rewritten::NoRoom;
     }
     write_table(words, c, &nodes, &items, out);
-    Rewritten::Words(total as u32)
+    let count = total as u32;
+    Rewritten::Words(count)
 }
 
 // Any slice of words and any output get document 01's answer.
 pub fn rewrite(words: &[u32], out: &mut [u32]) -> Rewritten
-    ensures { λ r. ⌜ outcomeOf r ≡ rewriting (now (words .entry)) (length (now (out .entry))) ⌝ }
+    ensures { λ r. ⌜ rewritingOf r ≡ rewriting (now (words .entry)) (length (now (out .entry))) ⌝ }
     ensures { λ _. ⌜ now (out .exit) ≡ outputAfter (now (words .entry)) (now (out .entry)) ⌝ }
 {
     let v = check(words);

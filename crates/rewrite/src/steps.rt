@@ -34,10 +34,9 @@ ghost use Rattle.algebra.specs.Columns.{closed, shapeAt};
 ghost use Rattle.plan.specs.Words as spec;
 ghost use Rattle.plan.specs.Plan.{nodeAt, widthsOf, nodesOf};
 ghost use Rattle.plan.specs.Promise.{Accepted};
-ghost use Rattle.plan.specs.Passes.{Reaches, Widths};
 ghost use Rattle.rewrite.specs.Answer.{newPlan};
-ghost use Rattle.rules.specs.Reads.{ReadsTable};
-ghost use Rattle.pages.specs.Pages.{GrowsOver, copyOf, Finished};
+ghost use Rattle.rules.specs.Given.{PlanNode, Tables};
+ghost use Rattle.pages.specs.Pages.{sheet, GrowsOver, copyOf, Finished};
 ghost use Rattle.rewrite.specs.Closing.{Closes};
 
 // The image of an input, which is a node before n.
@@ -58,66 +57,49 @@ fn copy_node(
     rows: &mut PerNode,
     c: Cursor,
 ) -> Cursor
-    requires { ⌜ Accepted (now words) × (n < spec.nodes (now words)) ⌝ }
-    ensures { λ r. ⌜ GrowsOver (widthsOf (now (words .entry))) (now (nodes .entry)) (now (nodes .exit)) (now (items .entry)) (now (items .exit)) (now (rows .entry)) (now (rows .exit)) c r (λ out. out ++ (copyOf (λ i. getD (now (images .entry)) i 0) (nodeAt (now (words .entry)) n) ∷ [])) ⌝ }
+    requires { ⌜ PlanNode (now words) n ⌝ }
+    ensures { λ r. ⌜ GrowsOver (widthsOf (now (words .entry)))
+        (sheet (now (nodes .entry)) (now (items .entry)) (now (rows .entry)) c)
+        (sheet (now (nodes .exit)) (now (items .exit)) (now (rows .exit)) r)
+        (λ out. out ++ (copyOf (λ i. getD (now (images .entry)) i 0) (nodeAt (now (words .entry)) n) ∷ [])) ⌝ }
 {
-    let o = operator(words, n);
-    let l = left(words, n);
-    let a = first_item(words, n);
+    let operation = operator(words, n);
+    let input = left(words, n);
+    let from = first_item(words, n);
     let count = item_count(words, n);
     let first = c.items;
-    let c = copied(words, items, c, a, count);
-    match o {
+    let c = copied(words, items, c, from, count);
+    match operation {
         1 => push_node(
             nodes,
             rows,
             c,
             first,
-            Head {
-                operator: 1,
-                left: l,
-                right: 0,
-                kind: 0,
-            },
-            table_width(words, l),
+            Head::scan(input),
+            table_width(words, input),
         ),
-        5 | 8 => push_node(
-            nodes,
-            rows,
-            c,
-            first,
-            Head {
-                operator: 5,
-                left: image(images, l),
-                right: image(images, right(words, n)),
-                kind: kind(words, n),
-            },
-            0,
-        ),
+        5 | 8 => {
+            let head = Head::join(
+                kind(words, n),
+                image(images, input),
+                image(images, right(words, n)),
+            );
+            push_node(nodes, rows, c, first, head, 0)
+        }
         7 => push_node(
             nodes,
             rows,
             c,
             first,
-            Head {
-                operator: 7,
-                left: image(images, l),
-                right: image(images, right(words, n)),
-                kind: 0,
-            },
-            count_tagged(words, a, count, 13, 16),
+            Head::groupjoin(image(images, input), image(images, right(words, n))),
+            count_tagged(words, from, count, 13, 16),
         ),
         _ => push_node(
             nodes,
             rows,
             c,
             first,
-            Head {
-                operator: o,
-                left: image(images, l),
-                right: 0,
-                kind: 0,
-            },
+            Head::over(operation, image(images, input)),
             0,
         ),
     }
@@ -136,25 +118,27 @@ fn closed_node(
     rows: &mut PerNode,
     c: Cursor,
 ) -> Cursor
-    requires { ⌜ Accepted (now words) × (n < spec.nodes (now words)) × (closed (shapeAt (widthsOf (now words)) (nodesOf (now words)) n) ≡ true) × Reaches (now words) (now reaches) × Widths (now words) (now widths) × ReadsTable (now words) (spec.nodes (now words)) (now reads) ⌝ }
-    ensures { λ r. ⌜ Closes (now (words .entry)) (now (images .entry)) n (now (nodes .entry)) (now (nodes .exit)) (now (items .entry)) (now (items .exit)) (now (rows .entry)) (now (rows .exit)) c r ⌝ }
+    requires { ⌜ PlanNode (now words) n × (closed (shapeAt (widthsOf (now words)) (nodesOf (now words)) n) ≡ true)
+        × Tables (now words) (now reaches) (now widths) (now reads) ⌝ }
+    ensures { λ r. ⌜ Closes (now (words .entry)) (now (images .entry)) n
+        (sheet (now (nodes .entry)) (now (items .entry)) (now (rows .entry)) c)
+        (sheet (now (nodes .exit)) (now (items .exit)) (now (rows .exit)) r) ⌝ }
 {
-    let o = operator(words, n);
-    if o == 8 {
-        let l = left(words, n);
-        let r = right(words, n);
-        if 0 < reaches[wide(r)] {
-            let i = images[wide(l)];
+    if operator(words, n) == 8 {
+        let left_input = left(words, n);
+        let right_input = right(words, n);
+        if 0 < reaches[wide(right_input)] {
+            let left_node = images[wide(left_input)];
             let d = outside();
-            let set = key_set(d, reads, r);
-            let g = domain_node(set, i, nodes, items, rows, c);
-            if !g.ok {
-                return g;
+            let set = key_set(d, reads, right_input);
+            let domain_put = domain_node(set, left_node, nodes, items, rows, c);
+            if !domain_put.ok {
+                return domain_put;
             }
-            let y = put(
+            let right_put = put(
                 words,
-                r,
-                inner(d, last(g), set),
+                right_input,
+                inner(d, last(domain_put), set),
                 reaches,
                 widths,
                 images,
@@ -162,21 +146,21 @@ fn closed_node(
                 nodes,
                 items,
                 rows,
-                g,
+                domain_put,
             );
             return with_inner(
                 words,
                 n,
                 d,
                 set,
-                widths[wide(l)],
-                widths[wide(r)],
-                i,
-                last(y),
+                widths[wide(left_input)],
+                widths[wide(right_input)],
+                left_node,
+                last(right_put),
                 nodes,
                 items,
                 rows,
-                y,
+                right_put,
             );
         }
     }
@@ -192,7 +176,7 @@ pub fn rewrite_nodes(
     nodes: &mut NodeWords,
     items: &mut ItemWords,
 ) -> Cursor
-    requires { ⌜ Accepted (now words) × Reaches (now words) (now reaches) × Widths (now words) (now widths) × ReadsTable (now words) (spec.nodes (now words)) (now reads) ⌝ }
+    requires { ⌜ Accepted (now words) × Tables (now words) (now reaches) (now widths) (now reads) ⌝ }
     ensures { λ r. ⌜ Finished (widthsOf (now (words .entry))) (newPlan (now (words .entry))) (now (nodes .exit)) (now (items .exit)) r ⌝ }
 {
     let mut rows = [0u32; Plan::NODES as usize];

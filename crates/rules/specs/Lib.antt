@@ -1,2 +1,3 @@
 pub mod Reads
+pub mod Given
 pub mod Under

@@ -14,10 +14,9 @@ use Rattle.plan.specs.Words.{operator, itemCount, itemsOf}
 use Rattle.plan.specs.Items.{isConjunct}
 use Rattle.plan.specs.Plan.{nodeAt, widthsOf, nodesOf}
 use Rattle.pages.specs.declared.domain.Domain as code
-use Rattle.pages.specs.declared.page.Cursor.{Cursor}
 use Rattle.pages.specs.Domains.{Means}
 use Rattle.rules.specs.Reads.{readsAt}
-use Rattle.pages.specs.Pages.{Stands, Page}
+use Rattle.pages.specs.Pages.{Stands, Sheet, Carries}
 
 module _ (ws : List ℕ) (images : ℕ → ℕ) where
   -- inputs are below, so that n + 1 levels of calls are enough for node n
@@ -40,9 +39,9 @@ pub record Ready (ws : List ℕ) (images : ℕ → ℕ) (n : ℕ) (D : Domain) (
   pub copies : (i : ℕ) → i < n → closed (shapeAt (widthsOf ws) (nodesOf ws) i) ≡ true → Stands (widthsOf ws) out (images i) (shapeAt (widthsOf ws) (nodesOf ws) i .width)
 
 -- the nodes out have become those with node n put under the domain that d means
-pub record Puts (ws images : List ℕ) (n : ℕ) (d : code.Domain) (nodes nodes′ items items′ rows rows′ : List ℕ) (c c′ : Cursor) : Type 0 where
+pub record Puts (ws images : List ℕ) (n : ℕ) (d : code.Domain) (s s′ : Sheet) : Type 0 where
   pub written : (D : Domain) (out : List Node) → Means d D → Within D (readsAt ws n) → Ready ws (λ i. getD images i 0) n D out
-      → Page (widthsOf ws) nodes items rows c out [] → Page (widthsOf ws) nodes′ items′ rows′ c′ (put ws (λ i. getD images i 0) (suc n) n D out .out) []
+      → Carries (widthsOf ws) s out → Carries (widthsOf ws) s′ (put ws (λ i. getD images i 0) (suc n) n D out .out)
 
 -- how many of a node's items are conjuncts, where it has conjuncts and at most aggregates behind them
 abbrev pub conjunctCount : List ℕ → ℕ → ℕ

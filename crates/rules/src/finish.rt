@@ -21,18 +21,18 @@ use plan::words::item_count;
 use plan::words::kind;
 use plan::words::operator;
 ghost use mathlib.Core.Path.{_≡_};
-ghost use mathlib.Core.Bool.{true, false};
+ghost use mathlib.Core.Bool.{true};
 ghost use mathlib.Core.List.{[], _∷_, _++_};
-ghost use Prim.Native.Nat.{_+_, _≤_, _<_};
+ghost use Prim.Native.Nat.{_+_, _≤_};
 ghost use Rattle.algebra.specs.Domains as algebra;
 ghost use Rattle.algebra.specs.Plan as trees;
 ghost use Rattle.plan.specs.Words as spec;
 ghost use Rattle.plan.specs.Plan.{nodeAt};
 ghost use Rattle.plan.specs.Verdict.{hasRight};
-ghost use Rattle.plan.specs.Promise.{Accepted};
 ghost use Rattle.pages.specs.Sets.{members};
-ghost use Rattle.pages.specs.Domains.{Means, Sound};
-ghost use Rattle.pages.specs.Pages.{Grows, Drops};
+ghost use Rattle.pages.specs.Domains.{Means};
+ghost use Rattle.pages.specs.Pages.{sheet, Grows, Drops};
+ghost use Rattle.rules.specs.Given.{NodeUnder, OneInput, Narrow};
 ghost use Rattle.rules.specs.Under.{conjunctCount, overInput, withCopy, withOpen, withInner};
 
 // The number of conjuncts among the items of node n: all of them, but for a groupjoin's aggregates.
@@ -47,127 +47,80 @@ fn conjunct_count(words: &[u32], n: u32) -> u32
     count
 }
 
-// Select, map, project and group over their input at i.
+// Select, map, project and group over their input.
 pub fn over_input(
     words: &[u32],
     n: u32,
     d: Domain,
-    i: u32,
+    input: u32,
     nodes: &mut NodeWords,
     items: &mut ItemWords,
     rows: &mut PerNode,
     c: Cursor,
 ) -> Cursor
-    requires { ⌜ Accepted (now words) × (n < spec.nodes (now words)) × (spec.operator (now words) n ≡ 1 → ⊥) × (hasRight (spec.operator (now words) n) ≡ false) × Sound d ⌝ }
-    ensures { λ r. ⌜ ((D : algebra.Domain) → Means d D → Grows (now (nodes .entry)) (now (nodes .exit)) (now (items .entry)) (now (items .exit)) (now (rows .entry)) (now (rows .exit)) c r (λ out. out ++ (overInput D i (nodeAt (now (words .entry)) n) ∷ []))) ⌝ }
+    requires { ⌜ NodeUnder (now words) n d × OneInput (now words) n ⌝ }
+    ensures { λ r. ⌜ ((D : algebra.Domain) → Means d D → Grows
+        (sheet (now (nodes .entry)) (now (items .entry)) (now (rows .entry)) c)
+        (sheet (now (nodes .exit)) (now (items .exit)) (now (rows .exit)) r)
+        (λ out. out ++ (overInput D input (nodeAt (now (words .entry)) n) ∷ []))) ⌝ }
 {
-    let o = operator(words, n);
-    let a = first_item(words, n);
+    let operation = operator(words, n);
+    let from = first_item(words, n);
     let count = item_count(words, n);
     let first = c.items;
-    let w = d.width;
-    if o == 4 {
-        let c = columns(items, c, 12, 0, w);
-        let c = shifted(words, items, c, a, count, w);
-        return push_node(
-            nodes,
-            rows,
-            c,
-            first,
-            Head {
-                operator: 4,
-                left: i,
-                right: 0,
-                kind: 0,
-            },
-            0,
-        );
+    let width = d.width;
+    if operation == 4 {
+        let c = columns(items, c, 12, 0, width);
+        let c = shifted(words, items, c, from, count, width);
+        return push_node(nodes, rows, c, first, Head::over(4, input), 0);
     }
-    if o == 6 {
-        let m = count_tagged(words, a, count, 11, 11);
-        if m == 0 {
-            let c = matches(items, c, w, w);
-            let c = shifted(words, items, c, a, count, w);
-            return push_node(
-                nodes,
-                rows,
-                c,
-                first,
-                Head {
-                    operator: 7,
-                    left: d.node,
-                    right: i,
-                    kind: 0,
-                },
-                count,
-            );
+    if operation == 6 {
+        let keys = count_tagged(words, from, count, 11, 11);
+        if keys == 0 {
+            let c = matches(items, c, width, width);
+            let c = shifted(words, items, c, from, count, width);
+            return push_node(nodes, rows, c, first, Head::groupjoin(d.node, input), count);
         }
-        let c = columns(items, c, 11, 0, w);
-        let c = shifted(words, items, c, a, count, w);
-        return push_node(
-            nodes,
-            rows,
-            c,
-            first,
-            Head {
-                operator: 6,
-                left: i,
-                right: 0,
-                kind: 0,
-            },
-            0,
-        );
+        let c = columns(items, c, 11, 0, width);
+        let c = shifted(words, items, c, from, count, width);
+        return push_node(nodes, rows, c, first, Head::over(6, input), 0);
     }
-    let c = moved(words, items, c, a, count, d, 0, w, 0);
-    push_node(
-        nodes,
-        rows,
-        c,
-        first,
-        Head {
-            operator: o,
-            left: i,
-            right: 0,
-            kind: 0,
-        },
-        0,
-    )
+    let c = moved(words, items, c, from, count, d, 0, width, 0);
+    push_node(nodes, rows, c, first, Head::over(operation, input), 0)
 }
 
-// A join or groupjoin of the left at i with the copy of a closed right at j.
+// A join or groupjoin of the left, under d, with the copy of a closed right.
 pub fn with_copy(
     words: &[u32],
     n: u32,
     d: Domain,
-    i: u32,
-    j: u32,
+    left: u32,
+    right: u32,
     nodes: &mut NodeWords,
     items: &mut ItemWords,
     rows: &mut PerNode,
     c: Cursor,
 ) -> Cursor
-    requires { ⌜ Accepted (now words) × (n < spec.nodes (now words)) × (hasRight (spec.operator (now words) n) ≡ true) × Sound d ⌝ }
-    ensures { λ r. ⌜ ((D : algebra.Domain) → Means d D → Grows (now (nodes .entry)) (now (nodes .exit)) (now (items .entry)) (now (items .exit)) (now (rows .entry)) (now (rows .exit)) c r (λ out. out ++ (withCopy D i j (nodeAt (now (words .entry)) n) ∷ []))) ⌝ }
+    requires { ⌜ NodeUnder (now words) n d × (hasRight (spec.operator (now words) n) ≡ true) ⌝ }
+    ensures { λ r. ⌜ ((D : algebra.Domain) → Means d D → Grows
+        (sheet (now (nodes .entry)) (now (items .entry)) (now (rows .entry)) c)
+        (sheet (now (nodes .exit)) (now (items .exit)) (now (rows .exit)) r)
+        (λ out. out ++ (withCopy D left right (nodeAt (now (words .entry)) n) ∷ []))) ⌝ }
 {
-    let a = first_item(words, n);
+    let from = first_item(words, n);
     let count = item_count(words, n);
-    let m = conjunct_count(words, n);
+    let conjuncts = conjunct_count(words, n);
     let first = c.items;
-    let c = moved(words, items, c, a, m, d, 0, d.width, 0);
+    let c = moved(words, items, c, from, conjuncts, d, 0, d.width, 0);
     if operator(words, n) == 7 {
-        let c = copied(words, items, c, a + m, count - m);
+        let c = copied(words, items, c, from + conjuncts, count - conjuncts);
         return push_node(
             nodes,
             rows,
             c,
             first,
-            Head {
-                operator: 7,
-                left: i,
-                right: j,
-                kind: 0,
-            },
-            count - m,
+            Head::groupjoin(left, right),
+            count - conjuncts,
         );
     }
     push_node(
@@ -175,162 +128,146 @@ pub fn with_copy(
         rows,
         c,
         first,
-        Head {
-            operator: 5,
-            left: i,
-            right: j,
-            kind: kind(words, n),
-        },
+        Head::join(kind(words, n), left, right),
         0,
     )
 }
 
-// Behind an inner or outer join: the project that drops m columns behind the first n.
+// Behind an inner or outer join: the project that keeps the columns in front and behind, and drops those between.
 fn drop_columns(
-    k: u32,
-    n: u32,
-    m: u32,
-    w: u32,
+    kind: u32,
+    front: u32,
+    between: u32,
+    behind: u32,
     nodes: &mut NodeWords,
     items: &mut ItemWords,
     rows: &mut PerNode,
     c: Cursor,
 ) -> Cursor
-    requires { ⌜ (n ≤ 300) × (m ≤ 300) × (w ≤ 300) ⌝ }
-    ensures { λ r. ⌜ Drops k n m w (now (nodes .entry)) (now (nodes .exit)) (now (items .entry)) (now (items .exit)) (now (rows .entry)) (now (rows .exit)) c r ⌝ }
+    requires { ⌜ (front ≤ 300) × (between ≤ 300) × (behind ≤ 300) ⌝ }
+    ensures { λ r. ⌜ Drops kind front between behind
+        (sheet (now (nodes .entry)) (now (items .entry)) (now (rows .entry)) c)
+        (sheet (now (nodes .exit)) (now (items .exit)) (now (rows .exit)) r) ⌝ }
 {
-    match k {
+    match kind {
         2 | 3 => c,
         _ => {
             let first = c.items;
-            let at = last(c);
-            let c = columns(items, c, 12, 0, n);
-            let c = columns(items, c, 12, n + m, w);
-            push_node(
-                nodes,
-                rows,
-                c,
-                first,
-                Head {
-                    operator: 4,
-                    left: at,
-                    right: 0,
-                    kind: 0,
-                },
-                0,
-            )
+            let join = last(c);
+            let c = columns(items, c, 12, 0, front);
+            let c = columns(items, c, 12, front + between, behind);
+            push_node(nodes, rows, c, first, Head::over(4, join), 0)
         }
     }
 }
 
-// A join or groupjoin of the left at i with an open right at j, both under d; wl and wr are the widths of the two sides.
+// A join or groupjoin of the left with an open right, both under d.
 pub fn with_open(
     words: &[u32],
     n: u32,
     d: Domain,
-    wl: u32,
-    wr: u32,
-    i: u32,
-    j: u32,
+    left_width: u32,
+    right_width: u32,
+    left: u32,
+    right: u32,
     nodes: &mut NodeWords,
     items: &mut ItemWords,
     rows: &mut PerNode,
     c: Cursor,
 ) -> Cursor
-    requires { ⌜ Accepted (now words) × (n < spec.nodes (now words)) × (hasRight (spec.operator (now words) n) ≡ true) × Sound d × (wl ≤ 64) × (wr ≤ 64) ⌝ }
-    ensures { λ r. ⌜ ((D : algebra.Domain) → Means d D → Grows (now (nodes .entry)) (now (nodes .exit)) (now (items .entry)) (now (items .exit)) (now (rows .entry)) (now (rows .exit)) c r (withOpen D wl wr i j (nodeAt (now (words .entry)) n))) ⌝ }
+    requires { ⌜ NodeUnder (now words) n d × (hasRight (spec.operator (now words) n) ≡ true) × Narrow «left_width» «right_width» ⌝ }
+    ensures { λ r. ⌜ ((D : algebra.Domain) → Means d D → Grows
+        (sheet (now (nodes .entry)) (now (items .entry)) (now (rows .entry)) c)
+        (sheet (now (nodes .exit)) (now (items .exit)) (now (rows .exit)) r)
+        (withOpen D «left_width» «right_width» left right (nodeAt (now (words .entry)) n))) ⌝ }
 {
-    let a = first_item(words, n);
+    let from = first_item(words, n);
     let count = item_count(words, n);
-    let m = conjunct_count(words, n);
+    let conjuncts = conjunct_count(words, n);
     let first = c.items;
-    let w = d.width;
-    let c = matches(items, c, w, w + wl);
-    let c = moved(words, items, c, a, m, d, wl, w, w);
+    let width = d.width;
+    let c = matches(items, c, width, width + left_width);
+    let c = moved(
+        words,
+        items,
+        c,
+        from,
+        conjuncts,
+        d,
+        left_width,
+        width,
+        width,
+    );
     if operator(words, n) == 7 {
-        let c = shifted(words, items, c, a + m, count - m, w);
+        let c = shifted(words, items, c, from + conjuncts, count - conjuncts, width);
         return push_node(
             nodes,
             rows,
             c,
             first,
-            Head {
-                operator: 7,
-                left: i,
-                right: j,
-                kind: 0,
-            },
-            count - m,
+            Head::groupjoin(left, right),
+            count - conjuncts,
         );
     }
-    let k = kind(words, n);
-    let c = push_node(
+    let join_kind = kind(words, n);
+    let c = push_node(nodes, rows, c, first, Head::join(join_kind, left, right), 0);
+    drop_columns(
+        join_kind,
+        width + left_width,
+        width,
+        right_width,
         nodes,
+        items,
         rows,
         c,
-        first,
-        Head {
-            operator: 5,
-            left: i,
-            right: j,
-            kind: k,
-        },
-        0,
-    );
-    drop_columns(k, w + wl, w, wr, nodes, items, rows, c)
+    )
 }
 
-// The domain over the left at i whose keys are the columns of set.
+// The domain over the left whose keys are the columns of set.
 pub fn domain_node(
     set: u64,
-    i: u32,
+    left: u32,
     nodes: &mut NodeWords,
     items: &mut ItemWords,
     rows: &mut PerNode,
     c: Cursor,
 ) -> Cursor
-    ensures { λ r. ⌜ Grows (now (nodes .entry)) (now (nodes .exit)) (now (items .entry)) (now (items .exit)) (now (rows .entry)) (now (rows .exit)) c r (λ out. out ++ (trees.group (members set) [] i ∷ [])) ⌝ }
+    ensures { λ r. ⌜ Grows
+        (sheet (now (nodes .entry)) (now (items .entry)) (now (rows .entry)) c)
+        (sheet (now (nodes .exit)) (now (items .exit)) (now (rows .exit)) r)
+        (λ out. out ++ (trees.group (members set) [] left ∷ [])) ⌝ }
 {
     let first = c.items;
     let c = set_keys(items, c, set);
-    push_node(
-        nodes,
-        rows,
-        c,
-        first,
-        Head {
-            operator: 6,
-            left: i,
-            right: 0,
-            kind: 0,
-        },
-        0,
-    )
+    push_node(nodes, rows, c, first, Head::over(6, left), 0)
 }
 
-// A dependent join of the left at i with its right at j under the domain over set.
+// A dependent join of the left with its right under the domain over set.
 pub fn with_inner(
     words: &[u32],
     n: u32,
     d: Domain,
     set: u64,
-    wl: u32,
-    wr: u32,
-    i: u32,
-    j: u32,
+    left_width: u32,
+    right_width: u32,
+    left: u32,
+    right: u32,
     nodes: &mut NodeWords,
     items: &mut ItemWords,
     rows: &mut PerNode,
     c: Cursor,
 ) -> Cursor
-    requires { ⌜ Accepted (now words) × (n < spec.nodes (now words)) × (spec.operator (now words) n ≡ 8) × Sound d × (wl ≤ 64) × (wr ≤ 64) ⌝ }
-    ensures { λ r. ⌜ ((D : algebra.Domain) → Means d D → Grows (now (nodes .entry)) (now (nodes .exit)) (now (items .entry)) (now (items .exit)) (now (rows .entry)) (now (rows .exit)) c r (withInner D (members set) wl wr i j (nodeAt (now (words .entry)) n))) ⌝ }
+    requires { ⌜ NodeUnder (now words) n d × (spec.operator (now words) n ≡ 8) × Narrow «left_width» «right_width» ⌝ }
+    ensures { λ r. ⌜ ((D : algebra.Domain) → Means d D → Grows
+        (sheet (now (nodes .entry)) (now (items .entry)) (now (rows .entry)) c)
+        (sheet (now (nodes .exit)) (now (items .exit)) (now (rows .exit)) r)
+        (withInner D (members set) «left_width» «right_width» left right (nodeAt (now (words .entry)) n))) ⌝ }
 {
-    let w = d.width;
-    let v = rank(set, 64);
-    let k = kind(words, n);
+    let width = d.width;
+    let keys = rank(set, 64);
+    let join_kind = kind(words, n);
     let first = c.items;
-    let c = set_matches(items, c, set, w + wl);
+    let c = set_matches(items, c, set, width + left_width);
     let c = moved(
         words,
         items,
@@ -338,22 +275,19 @@ pub fn with_inner(
         first_item(words, n),
         item_count(words, n),
         d,
-        wl,
-        w,
-        v,
+        left_width,
+        width,
+        keys,
     );
-    let c = push_node(
+    let c = push_node(nodes, rows, c, first, Head::join(join_kind, left, right), 0);
+    drop_columns(
+        join_kind,
+        width + left_width,
+        keys,
+        right_width,
         nodes,
+        items,
         rows,
         c,
-        first,
-        Head {
-            operator: 5,
-            left: i,
-            right: j,
-            kind: k,
-        },
-        0,
-    );
-    drop_columns(k, w + wl, v, wr, nodes, items, rows, c)
+    )
 }

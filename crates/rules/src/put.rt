@@ -25,15 +25,14 @@ use plan::words::wide;
 ghost use mathlib.Core.Path.{_≡_};
 ghost use mathlib.Core.Bool.{cond, _&&_};
 ghost use lib.Dec.{eqb};
-ghost use Prim.Native.Nat.{_<_};
 ghost use Rattle.algebra.specs.Columns.{shapeAt, readsLeft};
 ghost use Rattle.algebra.specs.Domains as algebra;
 ghost use Rattle.plan.specs.Words as spec;
 ghost use Rattle.plan.specs.Plan.{widthsOf, nodesOf};
-ghost use Rattle.plan.specs.Promise.{Accepted};
-ghost use Rattle.plan.specs.Passes.{Reaches, Widths};
 ghost use Rattle.pages.specs.Domains.{Means, Sound};
+ghost use Rattle.pages.specs.Pages.{sheet};
 ghost use Rattle.rules.specs.Reads.{ReadsTable};
+ghost use Rattle.rules.specs.Given.{PlanNode, NodeUnder, Tables};
 ghost use Rattle.rules.specs.Under.{Puts};
 
 // The domain that the right side of node n is under, where it is under the same one: past a dependent join one level further in.
@@ -49,8 +48,9 @@ fn right_domain(words: &[u32], n: u32, d: Domain) -> Domain
 
 // Whether node n is a dependent join whose right side reads its left row.
 fn reads_left(words: &[u32], n: u32, reads: &ReadSets) -> bool
-    requires { ⌜ Accepted (now words) × (n < spec.nodes (now words)) × ReadsTable (now words) (spec.nodes (now words)) (now reads) ⌝ }
-    ensures { λ r. ⌜ r ≡ (eqb (spec.operator (now (words .entry)) n) 8 && readsLeft (shapeAt (widthsOf (now (words .entry))) (nodesOf (now (words .entry))) (spec.right (now (words .entry)) n))) ⌝ }
+    requires { ⌜ PlanNode (now words) n × ReadsTable (now words) (spec.nodes (now words)) (now reads) ⌝ }
+    ensures { λ r. ⌜ r ≡ (eqb (spec.operator (now (words .entry)) n) 8
+        && readsLeft (shapeAt (widthsOf (now (words .entry))) (nodesOf (now (words .entry))) (spec.right (now (words .entry)) n))) ⌝ }
 {
     if operator(words, n) != 8 {
         return false;
@@ -72,8 +72,10 @@ pub fn put(
     rows: &mut PerNode,
     c: Cursor,
 ) -> Cursor
-    requires { ⌜ Accepted (now words) × (n < spec.nodes (now words)) × Sound d × Reaches (now words) (now reaches) × Widths (now words) (now widths) × ReadsTable (now words) (spec.nodes (now words)) (now reads) ⌝ }
-    ensures { λ r. ⌜ Puts (now (words .entry)) (now (images .entry)) n d (now (nodes .entry)) (now (nodes .exit)) (now (items .entry)) (now (items .exit)) (now (rows .entry)) (now (rows .exit)) c r ⌝ }
+    requires { ⌜ NodeUnder (now words) n d × Tables (now words) (now reaches) (now widths) (now reads) ⌝ }
+    ensures { λ r. ⌜ Puts (now (words .entry)) (now (images .entry)) n d
+        (sheet (now (nodes .entry)) (now (items .entry)) (now (rows .entry)) c)
+        (sheet (now (nodes .exit)) (now (items .exit)) (now (rows .exit)) r) ⌝ }
 {
     if reaches[wide(n)] == 0 {
         return push_node(
@@ -81,19 +83,14 @@ pub fn put(
             rows,
             c,
             c.items,
-            Head {
-                operator: 5,
-                left: d.node,
-                right: images[wide(n)],
-                kind: 1,
-            },
+            Head::join(1, d.node, images[wide(n)]),
             0,
         );
     }
-    let l = left(words, n);
-    let x = put(
+    let left_input = left(words, n);
+    let left_put = put(
         words,
-        l,
+        left_input,
         d,
         reaches,
         widths,
@@ -104,26 +101,26 @@ pub fn put(
         rows,
         c,
     );
-    if !x.ok {
-        return x;
+    if !left_put.ok {
+        return left_put;
     }
-    let i = last(x);
+    let left_node = last(left_put);
     if !has_right(operator(words, n)) {
-        return over_input(words, n, d, i, nodes, items, rows, x);
+        return over_input(words, n, d, left_node, nodes, items, rows, left_put);
     }
-    let r = right(words, n);
-    let wl = widths[wide(l)];
-    let wr = widths[wide(r)];
+    let right_input = right(words, n);
+    let left_width = widths[wide(left_input)];
+    let right_width = widths[wide(right_input)];
     if reads_left(words, n, reads) {
-        let set = key_set(d, reads, r);
-        let g = domain_node(set, i, nodes, items, rows, x);
-        if !g.ok {
-            return g;
+        let set = key_set(d, reads, right_input);
+        let domain_put = domain_node(set, left_node, nodes, items, rows, left_put);
+        if !domain_put.ok {
+            return domain_put;
         }
-        let y = put(
+        let right_put = put(
             words,
-            r,
-            inner(d, last(g), set),
+            right_input,
+            inner(d, last(domain_put), set),
             reaches,
             widths,
             images,
@@ -131,16 +128,39 @@ pub fn put(
             nodes,
             items,
             rows,
-            g,
+            domain_put,
         );
-        return with_inner(words, n, d, set, wl, wr, i, last(y), nodes, items, rows, y);
+        return with_inner(
+            words,
+            n,
+            d,
+            set,
+            left_width,
+            right_width,
+            left_node,
+            last(right_put),
+            nodes,
+            items,
+            rows,
+            right_put,
+        );
     }
-    if reaches[wide(r)] == 0 {
-        return with_copy(words, n, d, i, images[wide(r)], nodes, items, rows, x);
+    if reaches[wide(right_input)] == 0 {
+        return with_copy(
+            words,
+            n,
+            d,
+            left_node,
+            images[wide(right_input)],
+            nodes,
+            items,
+            rows,
+            left_put,
+        );
     }
-    let y = put(
+    let right_put = put(
         words,
-        r,
+        right_input,
         right_domain(words, n, d),
         reaches,
         widths,
@@ -149,7 +169,19 @@ pub fn put(
         nodes,
         items,
         rows,
-        x,
+        left_put,
     );
-    with_open(words, n, d, wl, wr, i, last(y), nodes, items, rows, y)
+    with_open(
+        words,
+        n,
+        d,
+        left_width,
+        right_width,
+        left_node,
+        last(right_put),
+        nodes,
+        items,
+        rows,
+        right_put,
+    )
 }

@@ -23,6 +23,7 @@ ghost use Rattle.plan.specs.Words as spec;
 ghost use Rattle.plan.specs.Promise.{Accepted};
 ghost use Rattle.pages.specs.Sets.{inSet, members};
 ghost use Rattle.pages.specs.Domains.{Means};
+ghost use Rattle.rules.specs.Given.{PlanNode};
 ghost use Rattle.rules.specs.Reads.{reads, ReadsTable, Added, termRead, inputRead, inputReads, Filled, KeySet};
 
 // Eight sets for each node.
@@ -61,7 +62,7 @@ fn add_input(table: &mut ReadSets, n: u32, i: u32, skip: u32)
 
 // What the inputs of node n read.
 fn add_inputs(words: &[u32], n: u32, table: &mut ReadSets)
-    requires { ⌜ Accepted (now words) × (n < spec.nodes (now words)) × Filled (now words) n (now table) ⌝ }
+    requires { ⌜ PlanNode (now words) n × Filled (now words) n (now table) ⌝ }
     ensures { λ _. ⌜ Added n (reads (inputReads (now (words .entry)) n)) (now (table .entry)) (now (table .exit)) ⌝ }
 {
     let o = operator(words, n);
@@ -78,7 +79,7 @@ fn add_inputs(words: &[u32], n: u32, table: &mut ReadSets)
 
 // All that node n reads, over what its inputs read.
 fn add_node(words: &[u32], n: u32, table: &mut ReadSets)
-    requires { ⌜ Accepted (now words) × (n < spec.nodes (now words)) × Filled (now words) n (now table) ⌝ }
+    requires { ⌜ PlanNode (now words) n × Filled (now words) n (now table) ⌝ }
     ensures { λ _. ⌜ Filled (now (words .entry)) (n + 1) (now (table .exit)) ⌝ }
 {
     add_inputs(words, n, table);

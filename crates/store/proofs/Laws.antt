@@ -1,8 +1,8 @@
-pub mod Appending
+pub mod Bits
 pub mod Cells
-pub mod Comparing
 pub mod Layouts
 pub mod Parts
 pub mod Ranges
+pub mod RowsBehind
 pub mod Tables
 pub mod Written

@@ -1,11 +1,12 @@
 -- Cells: "Null is −2^63; other cells lie within ±140,737,488,355,327 (2^47−1)."
+use mathlib.Core.Path.{_≡_}
 use mathlib.Core.Bool.{Bool, true, cond}
 use mathlib.Core.List.{List, _++_, map}
 use Prim.Native.Nat.{ℕ, _+_, _-_, _*_, _^_}
 use lib.IntN.{ℤ, pos, negsuc}
 use lib.Dec.{ltb}
 use lib.ListN.{length, take, drop}
-use Rattle.algebra.specs.Lists.{each, upto}
+use Rattle.algebra.specs.Lists.{all, each, upto}
 use Rattle.algebra.specs.Value.{Value, null, num, Row, eqZ}
 
 abbrev pub nullCell : ℤ
@@ -25,6 +26,10 @@ unfoldable pub inRange : Value → Bool
 inRange null = true
 inRange (num (pos n)) = ltb n (2 ^ 47)
 inRange (num (negsuc n)) = ltb n (2 ^ 47 - 1)
+
+-- no number of some rows is out of range
+abbrev pub InRange : List Row → Type 0
+InRange rows = all (all inRange) rows ≡ true
 
 -- the row of a width that begins at a place
 abbrev pub rowIn : List ℤ → ℕ → ℕ → Row

@@ -4,7 +4,7 @@ ghost use Prim.Native.Nat.{_+_, _≤_};
 ghost use lib.IntN.{pos};
 ghost use lib.ListN.{length, take, drop, replicate};
 ghost use Rattle.algebra.specs.Lists.{all};
-ghost use Rattle.store.specs.Cells.{nullCell, value, inRange, written};
+ghost use Rattle.store.specs.Cells.{value, inRange, written};
 
 pub const NULL: i64 = -9223372036854775808;
 
@@ -35,15 +35,24 @@ pub fn all_in_range(cells: &[i64]) -> bool
     true
 }
 
+// count cells from place to on become x.
+pub fn fill(s: &mut [i64], to: usize, count: usize, x: i64)
+    requires { ⌜ to + count ≤ length (now s) ⌝ }
+    ensures { λ _. ⌜ now (s .exit) ≡ written (now (s .entry)) to (replicate count x) ⌝ }
+{
+    let mut i = 0;
+    while i < count {
+        s[to + i] = x;
+        i += 1;
+    }
+}
+
 // Every cell becomes 0.
 pub fn clear(s: &mut [i64])
     ensures { λ _. ⌜ now (s .exit) ≡ replicate (length (now (s .entry))) (pos 0) ⌝ }
 {
-    let mut i = 0;
-    while i < s.len() {
-        s[i] = 0;
-        i += 1;
-    }
+    let count = s.len();
+    fill(s, 0, count, 0);
 }
 
 // count cells of from, from place at on, to place to of s.
@@ -66,17 +75,6 @@ pub fn copy_within(s: &mut [i64], at: usize, to: usize, count: usize)
     let mut i = 0;
     while i < count {
         s[to + i] = s[at + i];
-        i += 1;
-    }
-}
-
-pub fn write_nulls(s: &mut [i64], to: usize, count: usize)
-    requires { ⌜ to + count ≤ length (now s) ⌝ }
-    ensures { λ _. ⌜ now (s .exit) ≡ written (now (s .entry)) to (replicate count nullCell) ⌝ }
-{
-    let mut i = 0;
-    while i < count {
-        s[to + i] = NULL;
         i += 1;
     }
 }

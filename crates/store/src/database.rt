@@ -1,5 +1,5 @@
 // Refusal 10, and where the tables' cells begin.
-use crate::ROWS;
+use crate::MOST_ROWS;
 use crate::cells::all_in_range;
 use plan::words::table_width;
 use plan::words::tables;
@@ -20,7 +20,7 @@ fn counts_right(counts: &[u32]) -> bool
 {
     let mut i = 0;
     while i < counts.len() {
-        if ROWS < counts[i] {
+        if MOST_ROWS < counts[i] {
             return false;
         }
         i += 1;
@@ -30,7 +30,8 @@ fn counts_right(counts: &[u32]) -> bool
 
 // Where the cells of table t begin.
 pub fn table_start(words: &[u32], counts: &[u32], t: u32) -> usize
-    requires { ⌜ Sized (now words) × (t ≤ spec.tables (now words)) × (length (now counts) ≡ spec.tables (now words)) × (all (λ c. leb c 4096) (now counts) ≡ true) ⌝ }
+    requires { ⌜ Sized (now words) × (t ≤ spec.tables (now words))
+        × (length (now counts) ≡ spec.tables (now words)) × (all (λ c. leb c 4096) (now counts) ≡ true) ⌝ }
     ensures { λ r. ⌜ (r ≡ tableStart (now (words .entry)) (now (counts .entry)) t) × (r ≤ 4194304) ⌝ }
 {
     let mut at: usize = 0;

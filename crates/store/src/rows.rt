@@ -7,13 +7,20 @@ ghost use mathlib.Core.List.{map};
 ghost use Prim.Native.Nat.{_+_, _*_, _-_, _≤_, _<_};
 ghost use lib.ListN.{length, take, drop};
 ghost use Rattle.store.specs.Cells.{cell, written};
-ghost use Rattle.store.specs.Rows.{source, placeOf, rowOf, Within, Before};
+ghost use Rattle.store.specs.Rows.{source, placeOf, rowOf, Stands, Input};
 
 pub struct Block {
     pub table: bool,
     pub from: usize,
     pub width: usize,
     pub count: usize,
+}
+
+// A row number as an index.
+pub fn row_number(x: u16) -> usize
+    ensures { λ r. ⌜ r ≡ x ⌝ }
+{
+    x as usize
 }
 
 // A part of either of the two.
@@ -29,8 +36,9 @@ fn part<'a>(cells: &'a [i64], scratch: &'a [i64], table: bool, from: usize, to: 
 
 // Row i of a block.
 pub fn row<'a>(cells: &'a [i64], scratch: &'a [i64], b: Block, i: usize) -> &'a [i64]
-    requires { ⌜ Within (now cells) (now scratch) b × (i < b .count) × (b .count ≤ 4096) × (b .width ≤ 64) ⌝ }
-    ensures { λ r. ⌜ now r ≡ take (b .width) (drop (placeOf b i) (source (now (cells .entry)) (now (scratch .entry)) b)) ⌝ }
+    requires { ⌜ Stands (now cells) (now scratch) b × (i < b .count) ⌝ }
+    ensures { λ r. ⌜ now r
+        ≡ take (b .width) (drop (placeOf b i) (source (now (cells .entry)) (now (scratch .entry)) b)) ⌝ }
 {
     let from = b.from + i * b.width;
     part(cells, scratch, b.table, from, from + b.width)
@@ -38,16 +46,18 @@ pub fn row<'a>(cells: &'a [i64], scratch: &'a [i64], b: Block, i: usize) -> &'a 
 
 // All rows of a block, one after the other.
 pub fn rows<'a>(cells: &'a [i64], scratch: &'a [i64], b: Block) -> &'a [i64]
-    requires { ⌜ Within (now cells) (now scratch) b × (b .count ≤ 4096) × (b .width ≤ 64) ⌝ }
-    ensures { λ r. ⌜ now r ≡ take (b .count * b .width) (drop (b .from) (source (now (cells .entry)) (now (scratch .entry)) b)) ⌝ }
+    requires { ⌜ Stands (now cells) (now scratch) b ⌝ }
+    ensures { λ r. ⌜ now r
+        ≡ take (b .count * b .width) (drop (b .from) (source (now (cells .entry)) (now (scratch .entry)) b)) ⌝ }
 {
     part(cells, scratch, b.table, b.from, b.from + b.count * b.width)
 }
 
 // Row i of a block that ends before place to, copied there.
 pub fn copy_row(cells: &[i64], b: Block, i: usize, to: usize, scratch: &mut [i64])
-    requires { ⌜ Before (now cells) to b × (i < b .count) × (b .count ≤ 4096) × (b .width ≤ 64) × (to + b .width ≤ length (now scratch)) ⌝ }
-    ensures { λ _. ⌜ now (scratch .exit) ≡ written (now (scratch .entry)) to (map cell (rowOf (now (cells .entry)) (now (scratch .entry)) b i)) ⌝ }
+    requires { ⌜ Input (now cells) to b × (i < b .count) × (to + b .width ≤ length (now scratch)) ⌝ }
+    ensures { λ _. ⌜ now (scratch .exit)
+        ≡ written (now (scratch .entry)) to (map cell (rowOf (now (cells .entry)) (now (scratch .entry)) b i)) ⌝ }
 {
     let from = b.from + i * b.width;
     if b.table {

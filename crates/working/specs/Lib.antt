@@ -1,4 +1,4 @@
 pub mod Run
+pub mod Lent
 pub mod Nodes
 pub mod Statements
-pub mod Running

@@ -15,7 +15,6 @@ use Rattle.algebra.specs.Plan.{Conjunct}
 use Rattle.algebra.specs.Operators.{Outer, valueOf, passes}
 use Rattle.algebra.proofs.Lists.Every.{every-of, every-map, every-keep, every-in}
 use Rattle.algebra.proofs.Lists.Keep.{keep-append, keep-all, keep-cong, keep-keep, map-append}
-use Rattle.algebra.proofs.Domains.Keys.{upto-below}
 use Rattle.plan.specs.Words.{itemWord, threeAt, itemAt, itemsFrom}
 use Rattle.plan.specs.Items.{between, termOf, termRight, testOf, conjunctOf, conjunctRight}
 use Rattle.plan.specs.Terms.{meant}
@@ -142,12 +141,11 @@ module _ (test : ℕ) (first second : Operand) (s : List ℤ) (w k : ℕ) where
 
 -- ---- the rows that pass the conjuncts so far
 
-pub record Found (ws layout sizes : List ℕ) (cells scratch : List ℤ) (b : Binding) (j : ℕ) (left rows : List ℤ) (width count : ℕ) (found : List ℕ)
+pub record Found (ws layout sizes : List ℕ) (cells scratch : List ℤ) (b : Binding) (j : ℕ) (left rows : List ℤ) (width count : ℕ) (is found : List ℕ)
     (n i : ℕ) : Type 0 where
   pub chosen : (o : Outer) → Held ws layout sizes cells scratch b o
-      → take n found ≡ keep (matches o (conjunctsFrom ws j i) (map value left) rows width) (upto count)
+      → take n found ≡ keep (matches o (conjunctsFrom ws j i) (map value left) rows width) is
   pub below : Below count (take n found)
-  pub few : n ≤ count
 
 -- a right conjunct
 pub record Right (ws : List ℕ) (j : ℕ) : Type 0 where
@@ -180,15 +178,14 @@ conjuncts-more ws j i =
 holds-same : {s t : Test} {a b c d : Value} → s ≡ t → a ≡ b → c ≡ d → holds s a c ≡ holds t b d
 holds-same p q r = rw (p, q, r)
 
-module _ {ws layout sizes : List ℕ} {cells scratch : List ℤ} {b : Binding} {j : ℕ} {left rows : List ℤ} {width count : ℕ} where
-  pub found-start : {found : List ℕ} → take count found ≡ upto count → Found ws layout sizes cells scratch b j left rows width count found count 0
-  found-start e = record {
-    chosen = λ o held. e ∙ sym (keep-all (λ k. true) (every-of (λ k. refl) (upto count)));
-    below = rw e (upto-below count);
-    few = omega arith;
+module _ {ws layout sizes : List ℕ} {cells scratch : List ℤ} {b : Binding} {j : ℕ} {left rows : List ℤ} {width count : ℕ} {is : List ℕ} where
+  pub found-start : {found : List ℕ} {n : ℕ} → take n found ≡ is → Below count is → Found ws layout sizes cells scratch b j left rows width count is found n 0
+  found-start e h = record {
+    chosen = λ o held. e ∙ sym (keep-all (λ k. true) (every-of (λ k. refl) is));
+    below = rw e h;
   }
 
-  module _ {found : List ℕ} {n i : ℕ} (s : Found ws layout sizes cells scratch b j left rows width count found n i) (room : count * width ≤ length rows)
+  module _ {found : List ℕ} {n i : ℕ} (s : Found ws layout sizes cells scratch b j left rows width count is found n i) (all-below : Below count is) (room : count * width ≤ length rows)
     where
       pub found-there : There rows width (take n found)
       found-there = below-there rows width room (s .below)
@@ -201,13 +198,12 @@ module _ {ws layout sizes : List ℕ} {cells scratch : List ℤ} {b : Binding} {
           →
           ((o : Outer) → Held ws layout sizes cells scratch b o → (row : Row) → length row ≡ width → taken second row ≡ valueOf o (map value left ++ row) (meant u))
           → (take m after ≡ keep (meets test first second rows width) (take n found)) × (m ≤ n)
-          → Found ws layout sizes cells scratch b j left rows width count after m (i + 1)
+          → Found ws layout sizes cells scratch b j left rows width count is after m (i + 1)
       found-more {test} {m} first second t u {after} e f g p q r = record {
         chosen = λ o held. r .0 ∙ ap (keep (meets test first second rows width)) (s .chosen o held)
-            ∙ keep-keep (meets test first second rows width) (matches o (conjunctsFrom ws j i) (map value left) rows width) (upto count)
-            ∙ keep-cong _ _ (every-map (λ k (h : k < count). step o held k h) (upto-below count));
+            ∙ keep-keep (meets test first second rows width) (matches o (conjunctsFrom ws j i) (map value left) rows width) is
+            ∙ keep-cong _ _ (every-map (λ k (h : k < count). step o held k h) all-below);
         below = rw (r .0) (every-keep (meets test first second rows width) (s .below));
-        few = omega (arith, s .few, r .1);
       }
         where
           step : (o : Outer) → Held ws layout sizes cells scratch b o → (k : ℕ) → k < count
@@ -224,5 +220,5 @@ module _ {ws layout sizes : List ℕ} {cells scratch : List ℤ} {b : Binding} {
               (ap (λ (cs : List Conjunct). passes o cs (map value left ++ row)) (conjuncts-more ws j i) ∙ passes-more o (conjunctsFrom ws j i) c (map value left ++ row))
 
       -- all conjuncts passed
-      pub found-end : {k : ℕ} → k ≤ i → i ≤ k → Found ws layout sizes cells scratch b j left rows width count found n k
-      found-end {k} g h = let q : i ≡ k = omega arith in subst (λ (x : ℕ). Found ws layout sizes cells scratch b j left rows width count found n x) q s
+      pub found-end : {k : ℕ} → k ≤ i → i ≤ k → Found ws layout sizes cells scratch b j left rows width count is found n k
+      found-end {k} g h = let q : i ≡ k = omega arith in subst (λ (x : ℕ). Found ws layout sizes cells scratch b j left rows width count is found n x) q s

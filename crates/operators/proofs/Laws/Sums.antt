@@ -19,7 +19,7 @@ use Rattle.plan.proofs.Laws.Numbered.{every-all}
 use Rattle.store.specs.Cells.{nullCell, value, inRange}
 use Rattle.operators.specs.Choice.{There, Ranged, rowAt, chosen, inOrder}
 use Rattle.store.proofs.Laws.Cells.{every-drop}
-use Rattle.store.proofs.Laws.Comparing.{bits-null, bits-number}
+use Rattle.store.proofs.Laws.Bits.{bits-null, bits-number}
 use Rattle.store.proofs.Laws.Ranges.{abs-sum, fits-size, small-number, small, entry-ranged}
 use Rattle.operators.proofs.Laws.Operands.{row-column}
 

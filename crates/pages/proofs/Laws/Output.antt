@@ -1,27 +1,12 @@
--- Words copied to the output, one part behind the other.
+-- Parts of the output, one behind the other.
 use mathlib.Core.Path.{_≡_, refl, sym, ap, _∙_}
 use mathlib.Core.List.{List, [], _∷_, _++_, append-assoc}
-use Prim.Native.Nat.{ℕ, _+_, _-_, _*_, _≤_, _<_}
+use Prim.Native.Nat.{ℕ, _+_, _-_, _*_, _≤_}
 use native.Mathlib.Omega.{arith}
-use native.Mathlib.Nat.{le-antisymm}
-use native.Mathlib.Numerals.{add-one}
-use lib.ListN.{length, getD, take, drop, set, length-append, length-drop}
-use lib.Seq.{paste, paste-suc, take-at, drop-append-add, drop-drop, length-take-le, take-all}
+use lib.ListN.{length, take, drop, length-append, length-drop}
+use lib.Seq.{paste, take-at, drop-append-add, drop-drop, length-take-le, take-all}
 use Rattle.plan.specs.Words.{tables}
 use Rattle.pages.specs.Output.{total, table}
-
--- ---- one part
-
--- one word more
-pub copy-more : (d : List ℕ) (at : ℕ) (s : List ℕ) (n i : ℕ) (e : List ℕ) → at + n ≤ length d → n ≤ length s → i < n
-    → e ≡ paste d at s i → set e (at + i) (getD s i 0) ≡ paste d at s (i + 1)
-copy-more d at s n i e h g l q = rw (q, add-one) (paste-suc d at s i 0 (omega arith) (omega arith))
-
--- all of them
-pub copy-all : (d : List ℕ) (at : ℕ) (s : List ℕ) (n i : ℕ) (e : List ℕ) → i ≤ n → n ≤ i → e ≡ paste d at s i → e ≡ paste d at s n
-copy-all d at s n i e l g q = let same : i ≡ n = le-antisymm l g in rw same at q
-
--- ---- parts one behind the other
 
 -- the front p of d is written: a part behind it
 behind : (d e p s : List ℕ) (at n : ℕ) → e ≡ p ++ drop at d → length p ≡ at → paste e at s n ≡ (p ++ take n s) ++ drop (at + n) d

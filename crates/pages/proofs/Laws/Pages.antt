@@ -6,10 +6,9 @@ use mathlib.Core.List.{List, [], _∷_, _++_, append-nil, append-assoc}
 use Prim.Native.Nat.{ℕ, _+_, _-_, _*_, _<_, _≤_}
 use native.Mathlib.Omega.{arith}
 use native.Mathlib.Nat.{add-zero, add-assoc}
-use native.Mathlib.Numerals.{add-one, add-two, add-three, add-four, add-five, add-six}
 use lib.Dec.{eqb, ltb}
 use lib.ListN.{length, getD, take, set, replicate, length-append, length-map, List·getD-eq-default}
-use lib.Seq.{sets, sets-eq, take-at, length-take-le, getD-set-same, getD-set-other}
+use lib.Seq.{paste, take-paste, take-all, getD-set-same, getD-set-other}
 use borrow.Author.Tests.{ltb-true, ltb-false, eqb-false, eq-eqb, ne-eqb}
 use Rattle.algebra.specs.Lists.{each, listFrom}
 use Rattle.algebra.specs.Plan.{inner, semi, anti, left-outer, Node, scan, select, compute, project, join, group, groupjoin, dependent, widthOf}
@@ -21,21 +20,6 @@ use Rattle.plan.specs.Encoding.{parts, nodeWords, allItems}
 use Rattle.pages.specs.declared.page.Cursor.{Cursor}
 use Rattle.pages.specs.declared.page.Head.{Head}
 use Rattle.pages.specs.Pages.{Fits, Holds, Page, Added, widthBy, extraOf, Headed, Pushed}
-
--- ---- stores one behind the other
-
-stored : (l vs : List ℕ) (at : ℕ) → at + length vs ≤ length l → take (at + length vs) (sets l at vs) ≡ take at l ++ vs
-stored l vs at h =
-    ap (take (at + length vs)) (sets-eq vs l at h)
-    ∙ take-at (take at l ++ vs) _ (at + length vs) (rw (length-append, length-take-le at l (omega arith)))
-
-module _ (l : List ℕ) (at a b c d e f : ℕ) where
-  pub six : set (set (set (set (set (set l at a) (at + 1) b) (at + 2) c) (at + 3) d) (at + 4) e) (at + 5) f ≡ sets l at (a ∷ b ∷ c ∷ d ∷ e ∷ f ∷ [])
-  six = rw (add-one at, add-two at, add-three at, add-four at, add-five at)
-
-  pub seven : (g : ℕ) → set (set (set (set (set (set (set l at a) (at + 1) b) (at + 2) c) (at + 3) d) (at + 4) e) (at + 5) f) (at + 6) g
-      ≡ sets l at (a ∷ b ∷ c ∷ d ∷ e ∷ f ∷ g ∷ [])
-  seven g = rw (add-one at, add-two at, add-three at, add-four at, add-five at, add-six at)
 
 -- ---- widths
 
@@ -214,21 +198,21 @@ words-snoc : (ys : List (List ℕ)) (x : List ℕ) → each (λ w. w) (ys ++ (x 
 words-snoc ys x = each-append (λ w. w) ys (x ∷ []) ∙ ap (λ (l : List ℕ). each (λ w. w) ys ++ l) (append-nil x)
 
 -- an item is written
-pub item-written : (items items′ : List ℕ) (c c′ : Cursor) (x : List ℕ) (at : ℕ) → items′ ≡ sets items at x → at ≡ 7 * c .items → length x ≡ 7
+pub item-written : (items items′ : List ℕ) (c c′ : Cursor) (x : List ℕ) (at : ℕ) → items′ ≡ paste items at x 7 → at ≡ 7 * c .items → length x ≡ 7
     → length items ≡ 14000
     → c .ok ≡ true → c .items < 2000 → c′ .nodes ≡ c .nodes → c′ .items ≡ c .items + 1 → c′ .ok ≡ true → Added items items′ c c′ (x ∷ [])
 item-written items items′ c c′ x at s e long size ok h cn ci co widths nodes rows out xs p =
     record { holds = λ t. written (p .holds ok); over = λ t. absurd (true≢false (sym co ∙ t)) }
   where
-    last : 7 * c′ .items ≡ at + length x
+    last : 7 * c′ .items ≡ at + 7
     last = omega arith
 
     there : take (7 * c′ .items) items′ ≡ take (7 * c .items) items ++ x
     there =
         ap (λ (l : List ℕ). take (7 * c′ .items) l) s
-        ∙ ap (λ (k : ℕ). take k (sets items at x)) last
-        ∙ stored items x at (omega arith)
-        ∙ ap (λ (k : ℕ). take k items ++ x) e
+        ∙ ap (λ (k : ℕ). take k (paste items at x 7)) last
+        ∙ take-paste items at x 7 (omega arith) (omega arith)
+        ∙ (λ i. take (e i) items ++ take-all 7 x (omega arith) i)
 
     written : Holds widths nodes items rows c out xs → Holds widths nodes items′ rows c′ out (xs ++ (x ∷ []))
     written q = record {
@@ -279,6 +263,11 @@ node-snoc : (from : ℕ) (out : List Node) (n : Node)
 node-snoc from [] n = rw (add-zero from)
 node-snoc from (m ∷ out) n = rw (node-snoc (from + length (parts m .items)) out n, length-append, add-assoc)
 
+-- its head by another name
+pub pushed-as : {nodes nodes′ rows rows′ : List ℕ} {c c′ : Cursor} {first : ℕ} {head head′ : Head} {extra : ℕ} → head ≡ head′
+    → Pushed nodes nodes′ rows rows′ c c′ first head extra → Pushed nodes nodes′ rows rows′ c c′ first head′ extra
+pushed-as {nodes} {nodes′} {rows} {rows′} {c} {c′} {first} {extra} e = subst (λ (h : Head). Pushed nodes nodes′ rows rows′ c c′ first h extra) e
+
 module _ (nodes rows : List ℕ) (c : Cursor) (first : ℕ) (head : Head) (extra : ℕ) where
   -- what is over stays over
   pub over-node : c .ok ≡ false → Pushed nodes nodes rows rows c c first head extra
@@ -315,7 +304,7 @@ module _ (nodes rows : List ℕ) (c : Cursor) (first : ℕ) (head : Head) (extra
 
       -- it is written
       pub node-written : (nodes′ rows′ : List ℕ) (at : ℕ)
-          → nodes′ ≡ sets nodes at (head .operator ∷ head .left ∷ head .right ∷ head .kind ∷ first ∷ (c .items - first) ∷ [])
+          → nodes′ ≡ paste nodes at (head .operator ∷ head .left ∷ head .right ∷ head .kind ∷ first ∷ (c .items - first) ∷ []) 6
           → at ≡ 6 * c .nodes → length nodes ≡ 1536 → rows′ ≡ set rows (c .nodes) w → length rows ≡ 256 → c .nodes < 256 → w ≤ 64
           → c′ .nodes ≡ c .nodes + 1 → c′ .items ≡ c .items → c′ .ok ≡ true → Pushed nodes nodes′ rows rows′ c c′ first head extra
       node-written nodes′ rows′ at s e long r wide few narrow cn ci co widths items out n p h =
@@ -330,8 +319,8 @@ module _ (nodes rows : List ℕ) (c : Cursor) (first : ℕ) (head : Head) (extra
           there : take (6 * c′ .nodes) nodes′ ≡ take (6 * c .nodes) nodes ++ new
           there =
               ap (λ (l : List ℕ). take (6 * c′ .nodes) l) s
-              ∙ ap (λ (k : ℕ). take k (sets nodes at new)) last
-              ∙ stored nodes new at (omega arith)
+              ∙ ap (λ (k : ℕ). take k (paste nodes at new 6)) last
+              ∙ take-paste nodes at new 6 (omega arith) (omega arith)
               ∙ ap (λ (k : ℕ). take k nodes ++ new) e
 
           written : Holds widths nodes items rows c out (parts n .items) → Holds widths nodes′ items rows′ c′ (out ++ (n ∷ [])) []

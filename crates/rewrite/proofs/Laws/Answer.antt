@@ -31,7 +31,7 @@ use Rattle.plan.proofs.Laws.Numbered.{every-all, numbered, numbered-length}
 use Rattle.plan.proofs.Laws.Words.{word-read}
 use Rattle.pages.specs.declared.page.Cursor.{Cursor}
 use Rattle.rewrite.specs.declared.Rewritten.the-variants.{Words, Refused, OverLimits, NoRoom}
-use Rattle.rewrite.specs.Outcomes.{outcomeOf}
+use Rattle.rewrite.specs.Outcomes.{rewritingOf}
 use Rattle.rewrite.specs.Answer.{withinLimits, newPlan, newWords, refusal, rewriting, outputAfter}
 use Rattle.pages.specs.Output.{total, table}
 use Rattle.pages.specs.Pages.{Fits, Holds, Finished}
@@ -104,7 +104,7 @@ refused ws out k n h q = (rw (q, ne-eqb k 0 h), rw (q, ne-eqb k 0 h))
 
 -- refusals 1 to 7
 pub refused-first : (ws out : List ℕ) (r : Refusal) → refusalOf r ≡ verdict ws
-    → (outcomeOf (Refused r) ≡ rewriting ws (length out)) × (out ≡ outputAfter ws out)
+    → (rewritingOf (Refused r) ≡ rewriting ws (length out)) × (out ≡ outputAfter ws out)
 unfolding refusal
 refused-first ws out r e = refused ws out (refusalOf r .number) (refusalOf r .node) (some r) (rw (sym e, ne-eqb (refusalOf r .number) 0 (some r)))
   where
@@ -120,7 +120,7 @@ refused-first ws out r e = refused ws out (refusalOf r .number) (refusalOf r .no
 -- an accepted plan that was rewritten
 module _ (ws nodes items : List ℕ) (c : Cursor) (e : verdict ws ≡ accepted) (p : Finished (widthsOf ws) (newPlan ws) nodes items c) where
   -- it was too much
-  pub refused-over : (out : List ℕ) → c .ok ≡ false → (outcomeOf OverLimits ≡ rewriting ws (length out)) × (out ≡ outputAfter ws out)
+  pub refused-over : (out : List ℕ) → c .ok ≡ false → (rewritingOf OverLimits ≡ rewriting ws (length out)) × (out ≡ outputAfter ws out)
   unfolding refusal
   refused-over out bad = refused ws out 8 0 (λ q. omega arith) (rw (e, over-limits (widthsOf ws) (newPlan ws) (p .1 .over bad)))
 
@@ -151,15 +151,15 @@ module _ (ws nodes items : List ℕ) (c : Cursor) (e : verdict ws ≡ accepted) 
           ∙ sym (length-of (widthsOf ws) (newPlan ws))
 
       -- there is no room
-      pub refused-room : (out : List ℕ) → length out < count → (outcomeOf NoRoom ≡ rewriting ws (length out)) × (out ≡ outputAfter ws out)
+      pub refused-room : (out : List ℕ) → length out < count → (rewritingOf NoRoom ≡ rewriting ws (length out)) × (out ≡ outputAfter ws out)
       unfolding refusal
       refused-room out h = refused ws out 9 0 (λ q. omega arith) (rw (e, within, lt-ltb (length out) (length (newWords ws)) (rw words-count at h)))
 
       -- they are written
-      pub written : (out out′ : List ℕ) → count ≤ length out
+      pub written : (answered : ℕ) → answered ≡ count → (out out′ : List ℕ) → count ≤ length out
           → out′ ≡ table ws (c .nodes) (c .items) nodes items ++ drop (total (tables ws) (c .nodes) (c .items)) out
-          → (outcomeOf (Words count) ≡ rewriting ws (length out)) × (out′ ≡ outputAfter ws out)
+          → (rewritingOf (Words answered) ≡ rewriting ws (length out)) × (out′ ≡ outputAfter ws out)
       unfolding refusal rewriting outputAfter
-      written out out′ h q =
+      written answered same out out′ h q =
           let room : ltb (length out) (length (newWords ws)) ≡ false = le-ltb (length out) (length (newWords ws)) (rw words-count at h) in
-          (rw (e, within, room, words-count), rw (e, within, room) (q ∙ (λ j. words j ++ drop ((sym is ∙ words-count) j) out)))
+          (rw (e, within, room, same, words-count), rw (e, within, room) (q ∙ (λ j. words j ++ drop ((sym is ∙ words-count) j) out)))

@@ -24,7 +24,7 @@ use Rattle.rules.proofs.Laws.Columns.{columns-closed, columns-same}
 use Rattle.rules.proofs.Laws.ColumnsWritten.{Grows, Sits, Sound, Wrote, grows-none, no-node, one-more}
 use Rattle.rules.proofs.Laws.ColumnsWritten.{sits-closed, sits-grows, widthIn, wrote, wrote-join, wrote-unnest, wrote-width}
 use Rattle.rules.proofs.Laws.ColumnsUnder.{open-node}
-use Rattle.rewrite.proofs.Laws.Shaped.{Shaped, shaped-snoc, shapes-are}
+use Rattle.rewrite.proofs.Laws.PieceShapes.{Shaped, shaped-snoc, shapes-are}
 
 -- ---- closed nodes
 

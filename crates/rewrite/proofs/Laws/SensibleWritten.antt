@@ -19,7 +19,7 @@ use Rattle.algebra.proofs.Tables.Fine.{fine-below}
 use Rattle.rules.proofs.Laws.Columns.{Held, inner-held, inside-held}
 use Rattle.rewrite.proofs.Laws.Sensible.{Fit, Stored, around-some, both-stored, computation-stored}
 use Rattle.rewrite.proofs.Laws.Sensible.{conjuncts-stored, first-some, inner-stored, keys-some, match-stored, width-some}
-use Rattle.rewrite.proofs.Laws.Shaped.{Shaped, shaped-none, shaped-step, shapes-are}
+use Rattle.rewrite.proofs.Laws.PieceShapes.{Shaped, shaped-none, shaped-step, shapes-are}
 
 module _ (T : ℕ) where
   -- the nodes written are sensible

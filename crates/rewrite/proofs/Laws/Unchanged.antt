@@ -26,8 +26,8 @@ use Rattle.plan.specs.Encoding.{parts}
 use Rattle.plan.proofs.Laws.Formed.{NodeFacts, facts-at, inputs-below, mapped-at, nodes-length, upto-at}
 use Rattle.plan.proofs.Laws.Rebuilt.{operator-again}
 use Rattle.algebra.proofs.Tables.Fine.{fine-below}
-use Rattle.rewrite.proofs.Laws.Local.{ordered-all, tidy-node}
-use Rattle.rewrite.proofs.Laws.Shaped.{Shaped, shaped-none, shaped-step, shapes-are}
+use Rattle.rewrite.proofs.Laws.LocalColumns.{ordered-all, tidy-node}
+use Rattle.rewrite.proofs.Laws.PieceShapes.{Shaped, shaped-none, shaped-step, shapes-are}
 
 -- ---- closed nodes without dependent joins are copied
 

@@ -21,7 +21,7 @@ rewrite-nodes-requires c κs =
     let r = c .before .before .before .before .before in
     let w = r .before .before .before in
     let a = promise _ (w .before .before .before .pre) in
-    (a, r .before .work-out-reaches .ensures, widths-all _ _ (w .work-out-widths .result .narrow) a (w .work-out-widths .ensures), r .work-out-reads .ensures)
+    (a, (r .before .work-out-reaches .ensures, widths-all _ _ (w .work-out-widths .result .narrow) a (w .work-out-widths .ensures), r .work-out-reads .ensures))
 
 returns : tie.Need-returns
 returns c =
@@ -38,7 +38,7 @@ returns-2 c =
     let r = i .before .before in
     let a = r .before .before .before .before .before .before .before .before .before .before .before .before in
     refused-room (a .args .words .now) _ _ (r .rewrite-nodes .result) (a .pre) (r .rewrite-nodes .ensures) (not-false _ (i .if1 .left)) _
-    (c .before .total-words .ensures) (a .args .out .now) (c .if2 .taken)
+    (c .before .total-words .ensures) (a .args .out .now) (omega arith)
 
 write-table-requires : tie.Need-write-table-requires
 write-table-requires c κs =
@@ -48,8 +48,8 @@ write-table-requires c κs =
     let few = few-words (a .args .words .now) _ _ (r .rewrite-nodes .result) (a .pre) (r .rewrite-nodes .ensures) (not-false _ (i .if1 .left)) in
     (few .0, few .1, few .2, few .3, omega arith)
 
-cast-t25 : tie.Need-cast-t25
-cast-t25 c =
+cast-count : tie.Need-cast-count
+cast-count c =
     let t = c .before .before .before .before .before .before .before in
     let r = t .before .before .before in
     let a = r .before .before .before .before .before .before .before .before .before .before .before .before in
@@ -65,8 +65,8 @@ returns-3 c =
     let r = t .before .before .before in
     let a = r .before .before .before .before .before .before .before .before .before .before .before .before in
     written (a .args .words .now) _ _ (r .rewrite-nodes .result) (a .pre) (r .rewrite-nodes .ensures) (not-false _ (t .before .if1 .left)) _
-    (t .total-words .ensures) (a .args .out .now) _
-    (c .before .before .before .before .before .before .if2 .left) (c .before .before .write-table .ensures)
+    (t .total-words .ensures) _ (omega arith) (a .args .out .now) _
+    (omega (arith, c .before .before .before .before .before .before .if2 .left)) (c .before .before .write-table .ensures)
 
 pub rewrite-accepted-spec : {M : Type 1} → statement M
 rewrite-accepted-spec =
@@ -80,6 +80,6 @@ rewrite-accepted-spec =
     total-words-requires
     returns-2
     write-table-requires
-    cast-t25
+    cast-count
     same-length
     returns-3)

@@ -23,9 +23,9 @@ use Rattle.plan.proofs.Laws.Written.{node-items}
 use Rattle.pages.specs.declared.page.Cursor.{Cursor}
 use Rattle.pages.specs.declared.page.Head.{Head}
 use Rattle.pages.specs.Items.{itemWords}
-use Rattle.pages.specs.Pages.{Page, Added, Pushed, GrowsOver, extraOf, copyOf}
-use Rattle.rules.proofs.Laws.Rules.{kind-again}
-use Rattle.rules.proofs.Laws.Finish.{first-of}
+use Rattle.pages.specs.Pages.{Page, Added, Pushed, GrowsOver, extraOf, copyOf, headOf, sheet}
+use Rattle.rules.proofs.Laws.RuleItems.{kind-again}
+use Rattle.rules.proofs.Laws.RulePages.{first-of}
 
 -- ---- the items of a copy
 
@@ -70,7 +70,7 @@ module _ (widths : List ℕ) (images : ℕ → ℕ) (l r k : ℕ) (xs : List Ite
   abbrev copy : ℕ → Node
   copy o = copyOf images (nodeFor o l r (kindOf k) xs)
 
-  scan-head : (o extra : ℕ) → o ≡ 1 → extra ≡ getD widths l 0 → Written widths (record { operator = 1; left = l; right = 0; kind = 0 }) extra (copy o)
+  scan-head : (o extra : ℕ) → o ≡ 1 → extra ≡ getD widths l 0 → Written widths (headOf 1 l 0 0) extra (copy o)
   unfolding nodeFor
   scan-head o extra e f = rw e (refl, refl, refl, refl, f)
 
@@ -127,7 +127,7 @@ module _ (ws : List ℕ) (a : Accepted ws) (n : ℕ) (h : n < nodes ws) where
         (added : Added items₀ items₁ c d (map itemWords (itemsFrom ws x y))) where
       -- the items were added, and the node is pushed
       copied : (head : Head) (extra : ℕ) → Written (widthsOf ws) head extra written → Pushed nodes₀ nodes₁ rows₀ rows₁ d e (c .items) head extra
-          → GrowsOver (widthsOf ws) nodes₀ nodes₁ items₀ items₁ rows₀ rows₁ c e (λ out. out ++ (written ∷ []))
+          → GrowsOver (widthsOf ws) (sheet nodes₀ items₀ rows₀ c) (sheet nodes₁ items₁ rows₁ e) (λ out. out ++ (written ∷ []))
       copied head extra (f, g, p, q, r) pushed out page =
           let more : Page (widthsOf ws) nodes₀ items₁ rows₀ d out (map itemWords (itemsOf ws n)) =
           rw (ex, ey) at (added (widthsOf ws) nodes₀ rows₀ out [] page) in
@@ -142,35 +142,34 @@ module _ (ws : List ℕ) (a : Accepted ws) (n : ℕ) (h : n < nodes ws) where
 
       -- by its operator
       pub copied-scan : (extra : ℕ) → o ≡ 1 → extra ≡ tableWidth ws l
-          → Pushed nodes₀ nodes₁ rows₀ rows₁ d e (c .items) (record { operator = 1; left = l; right = 0; kind = 0 }) extra
-          → GrowsOver (widthsOf ws) nodes₀ nodes₁ items₀ items₁ rows₀ rows₁ c e (λ out. out ++ (written ∷ []))
+          → Pushed nodes₀ nodes₁ rows₀ rows₁ d e (c .items) (headOf 1 l 0 0) extra
+          → GrowsOver (widthsOf ws) (sheet nodes₀ items₀ rows₀ c) (sheet nodes₁ items₁ rows₁ e) (λ out. out ++ (written ∷ []))
       copied-scan extra q w =
           let f : operator ws n ≡ 1 = sym eo ∙ q in
           copied _ extra
           (rw el (scan-head (widthsOf ws) images (left ws n) (right ws n) (kind ws n) (itemsOf ws n) (operator ws n) extra f
           (w ∙ rw el (sym (numbered-at (tableWidth ws) (tables ws) (left ws n) 0 (facts .left-table f))))))
 
-      pub copied-join : (p i r j k : ℕ) → (o ≡ 5) ⊎ (o ≡ 8) → i ≡ images l → r ≡ right ws n → j ≡ images r → k ≡ kind ws n
-          → Pushed nodes₀ nodes₁ rows₀ rows₁ d e (c .items) (record { operator = p; left = i; right = j; kind = k }) 0 → p ≡ 5
-          → GrowsOver (widthsOf ws) nodes₀ nodes₁ items₀ items₁ rows₀ rows₁ c e (λ out. out ++ (written ∷ []))
-      copied-join p i r j k q ei er ej ek pushed ep =
+      pub copied-join : (i r j k : ℕ) → (o ≡ 5) ⊎ (o ≡ 8) → i ≡ images l → r ≡ right ws n → j ≡ images r → k ≡ kind ws n
+          → Pushed nodes₀ nodes₁ rows₀ rows₁ d e (c .items) (headOf 5 i j k) 0
+          → GrowsOver (widthsOf ws) (sheet nodes₀ items₀ rows₀ c) (sheet nodes₁ items₁ rows₁ e) (λ out. out ++ (written ∷ []))
+      copied-join i r j k q ei er ej ek =
           let f : (operator ws n ≡ 5) ⊎ (operator ws n ≡ 8) = rw eo at q in
           copied _ 0
-          (rw (ep, ei, el, ej, er, ek) (join-head (widthsOf ws) images (left ws n) (right ws n) (kind ws n) (itemsOf ws n) (operator ws n) f
+          (rw (ei, el, ej, er, ek) (join-head (widthsOf ws) images (left ws n) (right ws n) (kind ws n) (itemsOf ws n) (operator ws n) f
           (kind-again (kind ws n) (facts .kind-low (kind-has (operator ws n) f)) (facts .kind-high (kind-has (operator ws n) f)))))
-          pushed
 
       pub copied-groupjoin : (i r j extra : ℕ) → o ≡ 7 → i ≡ images l → r ≡ right ws n → j ≡ images r → extra ≡ length (keep isAggregate (itemsFrom ws x y))
-          → Pushed nodes₀ nodes₁ rows₀ rows₁ d e (c .items) (record { operator = 7; left = i; right = j; kind = 0 }) extra
-          → GrowsOver (widthsOf ws) nodes₀ nodes₁ items₀ items₁ rows₀ rows₁ c e (λ out. out ++ (written ∷ []))
+          → Pushed nodes₀ nodes₁ rows₀ rows₁ d e (c .items) (headOf 7 i j 0) extra
+          → GrowsOver (widthsOf ws) (sheet nodes₀ items₀ rows₀ c) (sheet nodes₁ items₁ rows₁ e) (λ out. out ++ (written ∷ []))
       copied-groupjoin i r j extra q ei er ej w =
           copied _ extra
           (rw (ei, el, ej, er) (groupjoin-head (widthsOf ws) images (left ws n) (right ws n) (kind ws n) (itemsOf ws n) (operator ws n) extra (sym eo ∙ q)
           (w ∙ rw (ex, ey))))
 
       pub copied-other : (i : ℕ) → Single o → i ≡ images l
-          → Pushed nodes₀ nodes₁ rows₀ rows₁ d e (c .items) (record { operator = o; left = i; right = 0; kind = 0 }) 0
-          → GrowsOver (widthsOf ws) nodes₀ nodes₁ items₀ items₁ rows₀ rows₁ c e (λ out. out ++ (written ∷ []))
+          → Pushed nodes₀ nodes₁ rows₀ rows₁ d e (c .items) (headOf o i 0 0) 0
+          → GrowsOver (widthsOf ws) (sheet nodes₀ items₀ rows₀ c) (sheet nodes₁ items₁ rows₁ e) (λ out. out ++ (written ∷ []))
       copied-other i q ei =
           copied _ 0
           (rw (ei, el, eo) (single-head (widthsOf ws) images (left ws n) (right ws n) (kind ws n) (itemsOf ws n) (operator ws n) (facts .low)

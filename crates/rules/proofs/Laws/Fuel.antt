@@ -20,8 +20,8 @@ use Rattle.plan.specs.Verdict.{hasRight}
 use Rattle.plan.specs.Promise.{Formed}
 use Rattle.plan.proofs.Laws.Formed.{NodeFacts, by-operator, facts-at, inputs-below, shape-of}
 use Rattle.rules.specs.Under.{overInput, piece, put, withCopy, withInner, withOpen}
-use Rattle.rules.proofs.Laws.Alike.{open-alike}
-use Rattle.rules.proofs.Laws.Behind.{Extends, extends-none, extends-then, extends-one, leftPlaced, left-behind, open-behind, AtEnd, emit-end, Inner, open-end}
+use Rattle.rules.proofs.Laws.SamePieces.{open-alike}
+use Rattle.rules.proofs.Laws.AppendedNodes.{Extends, extends-none, extends-then, extends-one, leftPlaced, left-behind, open-behind, AtEnd, emit-end, Inner, open-end}
 
 -- ---- fuel
 

@@ -22,7 +22,7 @@ use Rattle.pages.specs.Domains.{Means, Sound, placeIn}
 use Rattle.rules.specs.Reads.{ReadsTable, reads, readsAt}
 use Rattle.pages.proofs.Laws.Sets.{rank-step}
 use Rattle.pages.proofs.Laws.Limits.{node-index}
-use Rattle.rules.proofs.Laws.Inputs.{reads-small}
+use Rattle.rules.proofs.Laws.InputReads.{reads-small}
 
 -- ---- the domain of a right side
 

@@ -20,7 +20,7 @@ use Rattle.algebra.proofs.Lists.Every.{every-at}
 use Rattle.plan.proofs.Laws.Loops.{all-append}
 use Rattle.plan.proofs.Laws.Numbered.{every-all}
 use Rattle.store.specs.Cells.{nullCell, value, inRange}
-use Rattle.store.proofs.Laws.Comparing.{bits-null, other-number}
+use Rattle.store.proofs.Laws.Bits.{bits-null, other-number}
 
 -- ---- one cell
 

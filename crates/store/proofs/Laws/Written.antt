@@ -1,7 +1,7 @@
 -- What the loops over cells have written so far.
 use mathlib.Core.Path.{_≡_, refl, sym, ap, _∙_}
 use mathlib.Core.List.{List, [], _∷_, _++_, append-nil}
-use Prim.Native.Nat.{ℕ, zero, suc, _+_, _<_, _≤_}
+use Prim.Native.Nat.{ℕ, _+_, _<_, _≤_}
 use native.Mathlib.Numerals.{add-one}
 use native.Mathlib.Omega.{arith}
 use lib.IntN.{ℤ, pos}
@@ -9,22 +9,6 @@ use lib.ListN.{length, getD, take, drop, set, replicate, length-drop, length-rep
 use lib.Seq.{length-take-le, take-suc, getD-drop, getD-take}
 use Rattle.store.specs.Cells.{written}
 use Rattle.store.proofs.Laws.Cells.{written-more}
-
--- ---- zeros from the front
-
-zeros-suc : (n : ℕ) (v : ℤ) (d : List ℤ) → n < length d → set (replicate n v ++ drop n d) n v ≡ replicate (suc n) v ++ drop (suc n) d
-zeros-suc n v [] h = absurd (omega arith)
-zeros-suc zero v (x ∷ d) h = refl
-zeros-suc (suc n) v (x ∷ d) h = ap (λ (t : List ℤ). v ∷ t) (zeros-suc n v d (omega arith))
-
-pub zeros-more : (n : ℕ) (v : ℤ) (d s : List ℤ) → n < length d → s ≡ replicate n v ++ drop n d → set s n v ≡ replicate (n + 1) v ++ drop (n + 1) d
-zeros-more n v d s h e = rw (e, add-one) (zeros-suc n v d h)
-
-pub zeros-all : (n : ℕ) (v : ℤ) (d s : List ℤ) → length d ≤ n → n ≤ length d → s ≡ replicate n v ++ drop n d → s ≡ replicate (length d) v
-zeros-all n v d s h g e =
-    let q : n ≡ length d = omega arith in
-    let z : drop n d ≡ [] = drop-of-length-le d h in
-    e ∙ ap (λ (l : List ℤ). replicate n v ++ l) z ∙ append-nil (replicate n v) ∙ ap (λ (k : ℕ). replicate k v) q
 
 -- ---- cells copied, one a turn
 
@@ -72,3 +56,10 @@ filled-more s₀ to i v s h e =
 pub filled-all : (s₀ : List ℤ) (to i count : ℕ) (v : ℤ) (s : List ℤ) → count ≤ i → i ≤ count → s ≡ written s₀ to (replicate i v)
     → s ≡ written s₀ to (replicate count v)
 filled-all s₀ to i count v s h g e = let q : i ≡ count = omega arith in rw q at e
+
+-- every cell
+pub filled-whole : (s₀ : List ℤ) (v : ℤ) → written s₀ 0 (replicate (length s₀) v) ≡ replicate (length s₀) v
+unfolding written
+filled-whole s₀ v =
+    let h : length s₀ ≤ 0 + length (replicate (length s₀) v) = omega (arith, length-replicate (length s₀) v) in
+    ap (λ (l : List ℤ). replicate (length s₀) v ++ l) (drop-of-length-le s₀ h) ∙ append-nil (replicate (length s₀) v)

@@ -1,6 +1,6 @@
 use mathlib.Core.Path.{refl}
 use Rattle.rewrite.specs.declared.Rewritten.the-variants.{Words, Refused, OverLimits, NoRoom}
-use Rattle.rewrite.specs.Outcomes.{outcomeOf}
+use Rattle.rewrite.specs.Outcomes.{rewritingOf}
 use Rattle.tunesaturn.proofs.Gives.{gives, gives-refused}
 use borrow.Author.Needs.{needs}
 use Rattle.tunesaturn.proofs.tunesaturn_rewrite.Statement.{statement}
@@ -45,7 +45,7 @@ same-length c = search needs
 returns : tie.Need-returns
 returns c =
     let w = c .before .before .before .before .before .before .rewrite in
-    (gives outcomeOf _ _ (Words _) _ (w .ensures .0) (c .before .before .answer .given .1) (refl, refl, c .wide .ensures), w .ensures .1)
+    (gives rewritingOf _ _ (Words _) _ (w .ensures .0) (c .before .before .answer .given .1) (refl, refl, c .wide .ensures), w .ensures .1)
 
 same-length-2 : tie.Need-same-length-2
 same-length-2 c = search needs
@@ -53,7 +53,7 @@ same-length-2 c = search needs
 returns-2 : tie.Need-returns-2
 returns-2 c =
     let w = c .before .before .before .before .before .before .before .before .rewrite in
-    (gives-refused outcomeOf _ _ (Refused _) _ (w .ensures .0) (c .before .before .before .before .answer2 .given .1) _ _ (c .before .before .number .ensures) (c .before .node .ensures) refl (c .numbered .ensures), w .ensures .1)
+    (gives-refused rewritingOf _ _ (Refused _) _ (w .ensures .0) (c .before .before .before .before .answer2 .given .1) _ _ (c .before .before .number .ensures) (c .before .node .ensures) refl (c .numbered .ensures), w .ensures .1)
 
 same-length-3 : tie.Need-same-length-3
 same-length-3 c = search needs
@@ -61,7 +61,7 @@ same-length-3 c = search needs
 returns-3 : tie.Need-returns-3
 returns-3 c =
     let w = c .before .before .before .before .before .rewrite in
-    (gives outcomeOf _ _ OverLimits _ (w .ensures .0) (c .before .enum-told .given .1) (c .numbered2 .ensures), w .ensures .1)
+    (gives rewritingOf _ _ OverLimits _ (w .ensures .0) (c .before .enum-told .given .1) (c .numbered2 .ensures), w .ensures .1)
 
 same-length-4 : tie.Need-same-length-4
 same-length-4 c = search needs
@@ -69,7 +69,7 @@ same-length-4 c = search needs
 returns-4 : tie.Need-returns-4
 returns-4 c =
     let w = c .before .before .before .before .before .rewrite in
-    (gives outcomeOf _ _ NoRoom _ (w .ensures .0) (c .before .enum-told2 .given .1) (c .numbered3 .ensures), w .ensures .1)
+    (gives rewritingOf _ _ NoRoom _ (w .ensures .0) (c .before .enum-told2 .given .1) (c .numbered3 .ensures), w .ensures .1)
 
 pub tunesaturn-rewrite-spec : {M : Type 1} → statement M
 tunesaturn-rewrite-spec =

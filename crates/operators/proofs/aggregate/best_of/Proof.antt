@@ -22,14 +22,14 @@ abbrev μ-loop : tie.MeasureT-loop
 μ-loop rows width p found n least answer₀ i₀ answer i = i
 
 -- the row read is within the rows
-inside : (c : tie.After-index Inv-loop μ-loop)
-    → c .index .result * c .before .before .before .before .before .before .args .width +
+inside : (c : tie.After-row-number Inv-loop μ-loop)
+    → c .row-number .result * c .before .before .before .before .before .before .args .width +
     c .before .before .before .before .before .before .args .width ≤ length (c .before .before .before .before .before .before .args .rows .now)
 inside c =
     let a = c .before .before .before .before .before .before .args in
     let p = c .before .before .before .before .before .before .pre in
     chosen-inside (a .rows .now) (a .width) (a .found .now) (a .n) (c .before .before .before .loop .i - 1) (p .1) (p .0) (omega arith)
-    (c .index .ensures)
+    (c .row-number .ensures)
 
 returns : tie.Need-returns Inv-loop μ-loop
 returns c =
@@ -44,14 +44,14 @@ loop-holds c =
 sub-i : tie.Need-sub-i Inv-loop μ-loop
 sub-i c = search needs
 
-mul-index : tie.Need-mul-index Inv-loop μ-loop
-mul-index c = search needs
+mul-row-number : tie.Need-mul-row-number Inv-loop μ-loop
+mul-row-number c = search needs
 
-shared-slice-read-index : tie.Need-shared-slice-read-index Inv-loop μ-loop
-shared-slice-read-index c = search needs
+shared-slice-read-row-number : tie.Need-shared-slice-read-row-number Inv-loop μ-loop
+shared-slice-read-row-number c = search needs
 
-index-requires : tie.Need-index-requires Inv-loop μ-loop
-index-requires c κs = search needs
+row-number-requires : tie.Need-row-number-requires Inv-loop μ-loop
+row-number-requires c κs = search needs
 
 mul-better-cell : tie.Need-mul-better-cell Inv-loop μ-loop
 mul-better-cell c = let h = inside c in record { fits = omega arith }
@@ -81,7 +81,7 @@ loop-again c =
       omega arith,
       l .inv .1,
       best-turn (a .rows .now) (a .width) (a .p) (a .found .now) (a .n) (start .pre .0) (l .i) (start .pre .1) (l .inv .1)
-          (tested .loop-test .taken) (l .inv .0) (c .before .before .index .ensures) (inOrder (a .least)) (toZ w64 (ofZ w64 (r .result))) _ _
+          (tested .loop-test .taken) (l .inv .0) (c .before .before .row-number .ensures) (inOrder (a .least)) (toZ w64 (ofZ w64 (r .result))) _ _
           (ap value (toZ-ofZ w64 (r .result) (record { sfits = r .ok })) ∙ r .ensures)
           (toZ-ofZ w64 _ (record { sfits = c .before .better-cell-arg .given })) (l .inv .2),
     )
@@ -102,9 +102,9 @@ best-of-spec =
     returns
     loop-holds
     sub-i
-    mul-index
-    shared-slice-read-index
-    index-requires
+    mul-row-number
+    shared-slice-read-row-number
+    row-number-requires
     mul-better-cell
     add-better-cell
     mul-better-cell-2

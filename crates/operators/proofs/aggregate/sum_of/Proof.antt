@@ -20,14 +20,14 @@ abbrev μ-loop : tie.MeasureT-loop
 μ-loop rows width p found n total₀ i₀ total i = i
 
 -- the row read is within the rows
-inside : (c : tie.After-index Inv-loop μ-loop)
-    → c .index .result * c .before .before .before .before .before .before .args .width +
+inside : (c : tie.After-row-number Inv-loop μ-loop)
+    → c .row-number .result * c .before .before .before .before .before .before .args .width +
     c .before .before .before .before .before .before .args .width ≤ length (c .before .before .before .before .before .before .args .rows .now)
 inside c =
     let a = c .before .before .before .before .before .before .args in
     let p = c .before .before .before .before .before .before .pre in
     chosen-inside (a .rows .now) (a .width) (a .found .now) (a .n) (c .before .before .before .loop .i - 1) (p .2) (p .0) (omega arith)
-    (c .index .ensures)
+    (c .row-number .ensures)
 
 returns : tie.Need-returns Inv-loop μ-loop
 returns c = let a = c .before .before .args in sum-past (a .rows .now) (a .width) (a .p) (take (a .n) (a .found .now)) (c .if1 .taken)
@@ -41,14 +41,14 @@ loop-holds c =
 sub-i : tie.Need-sub-i Inv-loop μ-loop
 sub-i c = search needs
 
-mul-index : tie.Need-mul-index Inv-loop μ-loop
-mul-index c = search needs
+mul-row-number : tie.Need-mul-row-number Inv-loop μ-loop
+mul-row-number c = search needs
 
-shared-slice-read-index : tie.Need-shared-slice-read-index Inv-loop μ-loop
-shared-slice-read-index c = search needs
+shared-slice-read-row-number : tie.Need-shared-slice-read-row-number Inv-loop μ-loop
+shared-slice-read-row-number c = search needs
 
-index-requires : tie.Need-index-requires Inv-loop μ-loop
-index-requires c κs = search needs
+row-number-requires : tie.Need-row-number-requires Inv-loop μ-loop
+row-number-requires c κs = search needs
 
 mul-x : tie.Need-mul-x Inv-loop μ-loop
 mul-x c = let h = inside c in record { fits = omega arith }
@@ -69,7 +69,7 @@ add-total c =
     let a = start .args in
     let l = tested .before .loop in
     sum-add-fits (a .rows .now) (a .width) (a .p) (a .found .now) (a .n) (start .pre .0) (l .i) (start .pre .2) (l .inv .1) (tested .loop-test .taken)
-    (l .inv .0) (c .before .before .index .ensures) (start .pre .1) (start .pre .4) (l .total) (record { sfits = c .before .x .given })
+    (l .inv .0) (c .before .before .row-number .ensures) (start .pre .1) (start .pre .4) (l .total) (record { sfits = c .before .x .given })
     (c .if2 .taken) (l .inv .2)
 
 loop-less : tie.Need-loop-less Inv-loop μ-loop
@@ -84,7 +84,7 @@ loop-again c =
       omega arith,
       l .inv .1,
       sum-turn (a .rows .now) (a .width) (a .p) (a .found .now) (a .n) (start .pre .0) (l .i) (start .pre .2) (l .inv .1)
-          (tested .loop-test .taken) (l .inv .0) (c .before .before .index .ensures) (start .pre .1) (start .pre .4) (l .total)
+          (tested .loop-test .taken) (l .inv .0) (c .before .before .row-number .ensures) (start .pre .1) (start .pre .4) (l .total)
           (record { sfits = c .before .x .given }) (c .if2 .taken) (l .inv .2),
     )
 
@@ -100,7 +100,7 @@ loop-again-2 c =
       omega arith,
       l .inv .1,
       sum-null (a .rows .now) (a .width) (a .p) (a .found .now) (a .n) (start .pre .0) (l .i) (start .pre .2) (l .inv .1)
-          (tested .loop-test .taken) (l .inv .0) (c .before .before .index .ensures) (l .total) (record { sfits = c .before .x .given })
+          (tested .loop-test .taken) (l .inv .0) (c .before .before .row-number .ensures) (l .total) (record { sfits = c .before .x .given })
           (c .if2 .left)
           (l .inv .2),
     )
@@ -122,9 +122,9 @@ sum-of-spec =
     returns
     loop-holds
     sub-i
-    mul-index
-    shared-slice-read-index
-    index-requires
+    mul-row-number
+    shared-slice-read-row-number
+    row-number-requires
     mul-x
     add-x
     mul-x-2

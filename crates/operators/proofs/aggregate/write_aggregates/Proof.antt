@@ -39,7 +39,7 @@ rows-requires : tie.Need-rows-requires Inv-loop μ-loop
 rows-requires c κs =
     let d = c .before .before .before .before .before in
     let l = c .before .before .loop in
-    (before-within (d .args .cells .now) (l .scratch) (d .args .to) (d .args .b) (d .pre .1 .3) (omega arith), d .pre .1 .4, d .pre .1 .5)
+    (before-within (d .args .cells .now) (l .scratch) (d .args .to) (d .args .b) (d .pre .1 .0 .0) (omega arith), d .pre .1 .0 .1, d .pre .1 .0 .2)
 
 aggregate-cell-requires : tie.Need-aggregate-cell-requires Inv-loop μ-loop
 aggregate-cell-requires c κs =
@@ -47,14 +47,14 @@ aggregate-cell-requires c κs =
     let a = start .args in
     let l = c .before .before .before .loop in
     let is = take (a .n) (a .found .now) in (
-      item-passes _ (a .words .now) (a .j) (l .i) (a .count) (start .pre .0 .1) (c .before .before .loop-test .taken),
+      item-passes _ (a .words .now) (a .j) (l .i) (a .count) (start .pre .0 .0 .1) (c .before .before .loop-test .taken),
       (
-        start .pre .1 .0,
-        start .pre .1 .1,
-        chosen-there (a .cells .now) (l .scratch) (a .b) (a .to) (start .pre .1 .3) (start .pre .1 .2) (omega arith) (c .rows .ensures),
-        start .pre .1 .5,
-        turn-ranged (a .words .now) (a .j) (a .cells .now) (a .scratch .now) (a .b) (a .to) is (start .pre .1 .2) (start .pre .1 .3) (l .i)
-            (l .scratch) _ (omega arith) (l .inv .3) (c .rows .ensures) (start .pre .1 .6),
+        start .pre .1 .1 .0,
+        start .pre .1 .1 .1,
+        chosen-there (a .cells .now) (l .scratch) (a .b) (a .to) (start .pre .1 .0 .0) (start .pre .1 .1 .2) (omega arith) (c .rows .ensures),
+        start .pre .1 .0 .2,
+        turn-ranged (a .words .now) (a .j) (a .cells .now) (a .scratch .now) (a .b) (a .to) is (start .pre .1 .1 .2) (start .pre .1 .0 .0) (l .i)
+            (l .scratch) _ (omega arith) (l .inv .3) (c .rows .ensures) (start .pre .1 .2),
       ),
     )
 
@@ -73,7 +73,7 @@ returns c =
     let r = c .before .before .aggregate-cell in
     let is = take (a .n) (a .found .now) in
     let e =
-    turn-entry (a .words .now) (a .j) (a .cells .now) (a .scratch .now) (a .b) (a .to) is (start .pre .1 .2) (start .pre .1 .3) (l .i) (l .scratch) _
+    turn-entry (a .words .now) (a .j) (a .cells .now) (a .scratch .now) (a .b) (a .to) is (start .pre .1 .1 .2) (start .pre .1 .0 .0) (l .i) (l .scratch) _
     (omega arith) (l .inv .3) (c .before .before .before .rows .ensures) (r .result) _ (r .ensures)
     (toZ-ofZ w64 (r .result) (record { sfits = r .ok })) in (
       range-fails (a .words .now) (a .j) (map (rowOf (a .cells .now) (a .scratch .now) (a .b)) is) (l .i) (a .count)
@@ -109,7 +109,7 @@ loop-again c =
     let is = take (a .n) (a .found .now) in
     let rs = map (rowOf (a .cells .now) (a .scratch .now) (a .b)) is in
     let e =
-    turn-entry (a .words .now) (a .j) (a .cells .now) (a .scratch .now) (a .b) (a .to) is (start .pre .1 .2) (start .pre .1 .3) (l .i) (l .scratch) _
+    turn-entry (a .words .now) (a .j) (a .cells .now) (a .scratch .now) (a .b) (a .to) is (start .pre .1 .1 .2) (start .pre .1 .0 .0) (l .i) (l .scratch) _
     (omega arith) (l .inv .3) (after-rows .rows .ensures) (r .result) _ (r .ensures) (toZ-ofZ w64 (r .result) (record { sfits = r .ok })) in (
       omega arith,
       simp length-set (l .inv .1),

@@ -10,7 +10,7 @@ use Rattle.store.specs.Cells.{cellsOf, rowsIn, written}
 use Rattle.store.specs.Rows.{source}
 use Rattle.operators.proofs.Laws.Partners.{before-later}
 use Rattle.store.proofs.Laws.Parts.{row-end}
-use Rattle.operators.proofs.Laws.Picking.{picked-end, picked-next, picked-none, picked-size, row-kept}
+use Rattle.operators.proofs.Laws.Columns.{picked-end, picked-next, picked-none, picked-size, row-kept}
 use Rattle.operators.proofs.columns.pick_rows.Statement.{statement}
 use Rattle.operators.proofs.columns.pick_rows.Tie as tie
 
@@ -49,9 +49,7 @@ pick-row-requires c κs =
     let start = turn .before .before in
     let a = start .args in
     let p = start .pre in (
-      before-later (a .cells .now) (a .to) _ (a .b) (p .0) (omega arith),
-      search needs,
-      search needs,
+      (before-later (a .cells .now) (a .to) _ (a .b) (p .0) (omega arith), search needs, search needs),
       search needs,
       search needs,
       omega (arith, row-end (a .to) (turn .loop .i) (a .b .count) (a .count) (c .before .if1 .taken), p .5, turn .loop .inv .1),

@@ -6,7 +6,7 @@ use native.Mathlib.Omega.{arith}
 use lib.ListN.{length, length-set, take}
 use Rattle.plan.specs.Words.{itemsFrom}
 use Rattle.plan.specs.Items.{positionOf}
-use Rattle.operators.proofs.Laws.Picking.{positions-end, positions-more}
+use Rattle.operators.proofs.Laws.Columns.{positions-end, positions-more}
 use Rattle.operators.proofs.columns.read_positions.Statement.{statement}
 use Rattle.operators.proofs.columns.read_positions.Tie as tie
 

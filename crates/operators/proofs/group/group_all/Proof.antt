@@ -1,7 +1,7 @@
 use borrow.Author.Needs.{needs}
 use Rattle.operators.specs.Choice.{aggregatesFrom}
 use Rattle.operators.proofs.Laws.Partners.{chosen-ranged}
-use Rattle.operators.proofs.Laws.Turning.{all-below, all-rows, one-fails, one-makes}
+use Rattle.operators.proofs.Laws.OneGroup.{all-below, all-rows, one-fails, one-makes}
 use Rattle.operators.proofs.group.group_all.Statement.{statement}
 use Rattle.operators.proofs.group.group_all.Tie as tie
 
@@ -15,8 +15,12 @@ write-aggregates-requires c κs =
     let a = start .args in
     let p = start .pre in
     let below = all-below (a .b .count) (after-choose-all .choose-all .ensures) in (
-      (search needs, search needs, search needs),
-      (search needs, search needs, below, search needs, search needs, search needs, chosen-ranged (a .cells .now) (a .scratch .now) (a .b) (p .1 .3) below),
+      ((search needs, search needs), search needs),
+      (
+        (search needs, search needs, search needs),
+        (search needs, search needs, below),
+        chosen-ranged (a .cells .now) (a .scratch .now) (a .b) (p .1 .3) below,
+      ),
     )
 
 same-length : tie.Need-same-length

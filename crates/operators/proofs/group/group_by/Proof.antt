@@ -12,8 +12,8 @@ use Rattle.operators.specs.Choice.{aggregatesFrom}
 use Rattle.store.proofs.Laws.Parts.{row-small}
 use Rattle.operators.proofs.Laws.Partners.{before-within, before-later}
 use Rattle.operators.proofs.Laws.Aggregates.{aggregates-length}
-use Rattle.operators.proofs.Laws.Grouping.{Grouped, grouped-makes, grouped-none}
-use Rattle.operators.proofs.Laws.Turning.{Round, Turned, below-more, first-there, keyed-makes, part-there, place-fits, place-is, ranged-after, turned, turned-fails, turned-next}
+use Rattle.operators.proofs.Laws.Groups.{Grouped, grouped-makes, grouped-none}
+use Rattle.operators.proofs.Laws.OneGroup.{Round, Turned, below-more, first-there, keyed-makes, part-there, place-fits, place-is, ranged-after, turned, turned-fails, turned-next}
 use Rattle.operators.proofs.group.group_by.Statement.{statement}
 use Rattle.operators.proofs.group.group_by.Tie as tie
 
@@ -79,18 +79,18 @@ parted c = c .before .before .before .before
 abbrev placed : Written → Placed
 placed c = c .before .before .before .before
 
-first : (c : Parted) → c .before .before .before .before .before .before .before .index .result < start (begun c) .args .b .count
-first c = first-there (round (begun c)) (c .before .before .before .before .before .before .before .index .ensures)
+first : (c : Parted) → c .before .before .before .before .before .before .before .row-number .result < start (begun c) .args .b .count
+first c = first-there (round (begun c)) (c .before .before .before .before .before .before .before .row-number .ensures)
 
 turn : (c : Parted)
     → Turned (take (start (begun c) .args .keys) (positions (begun c))) (columns (begun c))
     (rowOf (start (begun c) .args .cells .now) (start (begun c) .args .scratch .now) (start (begun c) .args .b)) (start (begun c) .args .b .count)
-    (begun c .before .loop .left) (c .split .result .others) (c .before .before .before .before .before .before .before .index .result)
+    (begun c .before .loop .left) (c .split .result .others) (c .before .before .before .before .before .before .before .row-number .result)
     (take (begun c .before .loop .left) (begun c .before .loop .rest))
     (take (c .split .result .members) (c .split .last .1 .1 .1 .1 .1 .1 .1 .0)) (take (c .split .result .others) (c .split .last .1 .1 .1 .1 .1 .0))
 turn c =
     turned (round (begun c)) (c .before .before .before .before .before .rows .ensures)
-    (c .before .before .before .before .before .before .before .index .ensures) (c .before .before .before .wide3 .ensures)
+    (c .before .before .before .before .before .before .before .row-number .ensures) (c .before .before .before .wide3 .ensures)
     (c .split .result .members) (c .split .result .others) (c .split .last .1 .1 .1 .1 .1 .1 .1 .0) (c .split .last .1 .1 .1 .1 .1 .0)
     (c .split .ensures .0) (c .split .ensures .1) (c .split .ensures .3) (c .split .kept .1 .1 .1 .1 .1 .0)
 
@@ -136,11 +136,11 @@ loop-holds c =
       after-choose-all .before .before .before .read-positions .kept .1 .1 .1 .0,
     )
 
-array-read-index : tie.Need-array-read-index Inv-loop μ-loop
-array-read-index c = search needs
+array-read-row-number : tie.Need-array-read-row-number Inv-loop μ-loop
+array-read-row-number c = search needs
 
-index-requires : tie.Need-index-requires Inv-loop μ-loop
-index-requires c κs = search needs
+row-number-requires : tie.Need-row-number-requires Inv-loop μ-loop
+row-number-requires c κs = search needs
 
 rows-requires : tie.Need-rows-requires Inv-loop μ-loop
 rows-requires c κs =
@@ -167,7 +167,7 @@ split-requires c κs =
     let a = start r .args in
     let p = start r .pre in
     let l = r .before .loop in
-    let k = first-there (round r) (rows .before .before .index .ensures) in
+    let k = first-there (round r) (rows .before .before .row-number .ensures) in
     let inside = before-within (a .cells .now) (l .scratch) (a .to) (a .b) (p .1 .0) (omega (arith, p .0 .3, l .inv .1)) in
     let there = part-there (round r) (rows .rows .ensures) inside in (
       (
@@ -212,10 +212,8 @@ pick-row-requires c κs =
     let a = start r .args in
     let p = start r .pre in
     let e = place q in (
-      before-later (a .cells .now) (a .to) _ (a .b) (p .1 .0) (omega arith),
+      (before-later (a .cells .now) (a .to) _ (a .b) (p .1 .0) (omega arith), search needs, search needs),
       first (parted q),
-      search needs,
-      search needs,
       omega (arith, c .before .wide5 .ensures, keys-there r),
       omega (arith, c .before .wide5 .ensures, e, place-fits (round r), r .before .loop .inv .1),
     )
@@ -244,17 +242,16 @@ write-aggregates-requires c κs =
     let e = place q in
     let narrow : a .keys ≤ a .keys + a .count = omega arith in (
       (
-        search needs,
-        p .0 .2,
+        (search needs, p .0 .2),
         omega (arith, c .before .wide6 .ensures, e, place-fits (round r), l .inv .1, k .pick-row .kept .1 .1 .1 .1 .1 .1 .0),
       ),
       (
-        omega (arith, d .split .ensures .2, d .split .kept .1 .1 .1 .1 .1 .1 .1 .0, l .inv .2, p .1 .3, l .inv .0 .room, p .0 .4, p .0 .5),
-        omega (arith, d .split .ensures .2, l .inv .0 .room, p .0 .4, p .0 .5),
-        turn d .those,
-        before-later (a .cells .now) (a .to) _ (a .b) (p .1 .0) (omega arith),
-        search needs,
-        search needs,
+        (before-later (a .cells .now) (a .to) _ (a .b) (p .1 .0) (omega arith), search needs, search needs),
+        (
+          omega (arith, d .split .ensures .2, d .split .kept .1 .1 .1 .1 .1 .1 .1 .0, l .inv .2, p .1 .3, l .inv .0 .room, p .0 .4, p .0 .5),
+          omega (arith, d .split .ensures .2, l .inv .0 .room, p .0 .4, p .0 .5),
+          turn d .those,
+        ),
         ranged-after (round r) (first d) (keys-there r) narrow (l .inv .1) e (k .before .before .wide5 .ensures) (k .pick-row .ensures) (p .1 .2)
             (turn d .those),
       ),
@@ -338,8 +335,8 @@ group-by-spec =
     wide-requires-2
     add-width
     loop-holds
-    array-read-index
-    index-requires
+    array-read-row-number
+    row-number-requires
     rows-requires
     slice-aggregate-split
     wide-requires-3

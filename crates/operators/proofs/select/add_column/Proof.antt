@@ -1,6 +1,6 @@
-use Rattle.store.proofs.Laws.Appending.{few-cells}
+use Rattle.store.proofs.Laws.RowsBehind.{few-cells}
 use Rattle.operators.proofs.Laws.Partners.{before-within, before-later}
-use Rattle.operators.proofs.Laws.Making.{addedTo, added-none, added-start, copied-long, read-fits, operand-light, new-cell, added-more, added-ranged, added-out, added-end}
+use Rattle.operators.proofs.Laws.NewColumns.{addedTo, added-none, added-start, copied-long, read-fits, operand-light, new-cell, added-more, added-ranged, added-out, added-end}
 use mathlib.Core.Path.{_≡_, refl, sym, ap, _∙_}
 use mathlib.Core.Bool.{true}
 use Prim.Native.Nat.{_+_, _-_, _*_, _^_, _<_, _≤_}
@@ -51,10 +51,8 @@ copy-row-requires c κs =
     let a = c .before .before .before .before .before .args in
     let p = c .before .before .before .before .before .pre in
     let l = c .before .before .before .loop in (
-      before-later (a .cells .now) (a .to) (a .to + l .i * (a .input .width + 1)) (a .input) (p .0 .0) (omega arith),
+      (before-later (a .cells .now) (a .to) (a .to + l .i * (a .input .width + 1)) (a .input) (p .0 .0) (omega arith), omega arith, omega arith),
       c .before .if1 .taken,
-      omega arith,
-      omega arith,
       omega (arith, mul-le-mul-right (a .input .width + 1) (c .before .if1 .taken)),
     )
 
@@ -63,10 +61,12 @@ row-requires c κs =
     let a = c .before .before .before .before .before .before .before .before .args in
     let p = c .before .before .before .before .before .before .before .before .pre in
     let k = c .before .before .copy-row .kept .1 .1 .1 .1 .0 in (
-      before-within (a .cells .now) (c .before .before .copy-row .last .1 .1 .1 .1 .0) (a .to) (a .input) (p .0 .0) (omega (arith, k)),
+      (
+        before-within (a .cells .now) (c .before .before .copy-row .last .1 .1 .1 .1 .0) (a .to) (a .input) (p .0 .0) (omega (arith, k)),
+        omega arith,
+        omega arith,
+      ),
       c .before .before .before .before .if1 .taken,
-      omega arith,
-      omega arith,
     )
 
 taken-cell-requires : tie.Need-taken-cell-requires Inv-loop μ-loop

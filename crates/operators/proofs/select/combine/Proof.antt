@@ -1,4 +1,4 @@
-use Rattle.operators.proofs.Laws.Computing.{combined-copy, null-first, null-second, sum-fits, difference-fits, combined-sum, combined-difference}
+use Rattle.operators.proofs.Laws.Computations.{combined-copy, null-first, null-second, sum-fits, difference-fits, combined-sum, combined-difference}
 use mathlib.Core.Path.{ap, _∙_}
 use mir.Syntax.{w64}
 use mir.ValLaws.{toZ-ofZ}

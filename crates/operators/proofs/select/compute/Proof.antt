@@ -1,6 +1,6 @@
 use Rattle.store.proofs.Laws.Cells.{rows-wide}
 use Rattle.operators.proofs.Laws.Partners.{before-within}
-use Rattle.operators.proofs.Laws.Computing.{first-readable, second-readable, compute-makes}
+use Rattle.operators.proofs.Laws.Computations.{first-readable, second-readable, compute-makes}
 use mathlib.Core.Path.{refl}
 use native.Mathlib.Omega.{arith}
 use Rattle.plan.specs.Words.{itemAt}
@@ -25,7 +25,7 @@ resolve-requires : tie.Need-resolve-requires
 resolve-requires c κs =
     let a = c .before .before .before .before .before .before .args in
     let p = c .before .before .before .before .before .before .pre in
-    (p .0 .0, p .0 .1, first-readable (itemAt (a .words .now) (a .j)) (p .0 .2) (c .first-term .ensures))
+    ((p .0 .0, p .0 .1), first-readable (itemAt (a .words .now) (a .j)) (p .0 .2) (c .first-term .ensures))
 
 sub-resolve-2 : tie.Need-sub-resolve-2
 sub-resolve-2 c = search needs
@@ -43,7 +43,7 @@ resolve-requires-2 : tie.Need-resolve-requires-2
 resolve-requires-2 c κs =
     let a = c .before .before .before .before .before .before .before .before .before .args in
     let p = c .before .before .before .before .before .before .before .before .before .pre in
-    (p .0 .0, p .0 .1, second-readable (itemAt (a .words .now) (a .j)) (p .0 .2) (c .second-term .ensures))
+    ((p .0 .0, p .0 .1), second-readable (itemAt (a .words .now) (a .j)) (p .0 .2) (c .second-term .ensures))
 
 tag-requires : tie.Need-tag-requires
 tag-requires c κs = search needs

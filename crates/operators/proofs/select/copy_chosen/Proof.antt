@@ -6,10 +6,10 @@ use native.Mathlib.Nat.{mul-le-mul-right}
 use lib.ListN.{length, take}
 use Rattle.store.specs.Cells.{cellsOf, written}
 use Rattle.store.specs.Rows.{rowOf}
-use Rattle.store.proofs.Laws.Appending.{few-cells}
+use Rattle.store.proofs.Laws.RowsBehind.{few-cells}
 use Rattle.store.proofs.Laws.Cells.{written-nothing}
 use Rattle.operators.proofs.Laws.Partners.{before-later}
-use Rattle.operators.proofs.Laws.Selecting.{copied-more}
+use Rattle.operators.proofs.Laws.CopiedRows.{copied-more}
 use Rattle.operators.proofs.Laws.Choices.{next-one}
 use borrow.Author.Needs.{needs}
 use Rattle.operators.proofs.select.copy_chosen.Statement.{statement}
@@ -25,14 +25,14 @@ abbrev μ-loop : tie.MeasureT-loop
 loop-holds : tie.Need-loop-holds Inv-loop μ-loop
 loop-holds c = (search needs, refl, sym (written-nothing (c .before .args .scratch .now) (c .before .args .to)))
 
-mul-index : tie.Need-mul-index Inv-loop μ-loop
-mul-index c = search needs
+mul-row-number : tie.Need-mul-row-number Inv-loop μ-loop
+mul-row-number c = search needs
 
-shared-slice-read-index : tie.Need-shared-slice-read-index Inv-loop μ-loop
-shared-slice-read-index c = search needs
+shared-slice-read-row-number : tie.Need-shared-slice-read-row-number Inv-loop μ-loop
+shared-slice-read-row-number c = search needs
 
-index-requires : tie.Need-index-requires Inv-loop μ-loop
-index-requires c κs = search needs
+row-number-requires : tie.Need-row-number-requires Inv-loop μ-loop
+row-number-requires c κs = search needs
 
 mul-copy-row : tie.Need-mul-copy-row Inv-loop μ-loop
 mul-copy-row c =
@@ -50,10 +50,8 @@ copy-row-requires c κs =
     let p = c .before .before .before .before .before .before .before .pre in
     let k = c .before .before .before .before .before .loop .k in
     let h = c .before .before .before .before .loop-test .taken in (
-      before-later (a .cells .now) (a .to) (a .to + k * a .b .width) (a .b) (p .0) (omega arith),
-      rw (c .before .before .index .ensures) (next-one (a .found .now) (a .n) (p .5) k h (p .3)),
-      p .1,
-      p .2,
+      (before-later (a .cells .now) (a .to) (a .to + k * a .b .width) (a .b) (p .0 .0) (omega arith), p .0 .1, p .0 .2),
+      rw (c .before .before .row-number .ensures) (next-one (a .found .now) (a .n) (p .1 .2) k h (p .1 .0)),
       omega (arith, mul-le-mul-right (a .b .width) h),
     )
 
@@ -65,15 +63,15 @@ loop-less c = search needs
 
 loop-again : tie.Need-loop-again Inv-loop μ-loop
 loop-again c =
-    let after-index = c .before .before .before .before in
-    let start = after-index .before .before .before .before .before in
+    let after-row-number = c .before .before .before .before in
+    let start = after-row-number .before .before .before .before .before in
     let a = start .args in
     let p = start .pre in
-    let l = after-index .before .before .before .loop in (
+    let l = after-row-number .before .before .before .loop in (
       omega arith,
       c .before .copy-row .kept .1 .1 .1 .1 .0 ∙ l .inv .1,
-      copied-more (a .cells .now) (a .scratch .now) (a .b) (a .found .now) (a .n) (a .to) (p .0) (p .3) (p .5) (p .6) (l .k)
-          (after-index .before .before .loop-test .taken) (after-index .index .ensures) (l .inv .2) (c .before .copy-row .ensures),
+      copied-more (a .cells .now) (a .scratch .now) (a .b) (a .found .now) (a .n) (a .to) (p .0 .0) (p .1 .0) (p .1 .2) (p .2) (l .k)
+          (after-row-number .before .before .loop-test .taken) (after-row-number .row-number .ensures) (l .inv .2) (c .before .copy-row .ensures),
     )
 
 same-length : tie.Need-same-length Inv-loop μ-loop
@@ -94,9 +92,9 @@ copy-chosen-spec =
     Inv-loop
     μ-loop
     loop-holds
-    mul-index
-    shared-slice-read-index
-    index-requires
+    mul-row-number
+    shared-slice-read-row-number
+    row-number-requires
     mul-copy-row
     add-copy-row
     copy-row-requires

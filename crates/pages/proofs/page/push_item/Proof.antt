@@ -1,9 +1,9 @@
 use mathlib.Core.Path.{refl}
 use Prim.Native.Nat.{_*_}
 use Rattle.pages.proofs.Laws.Pages.{over-item, full-items, item-written}
-use borrow.Author.Needs.{needs}
 use borrow.Author.Tests.{not-true, not-false}
 use native.Mathlib.Omega.{arith}
+use borrow.Author.Needs.{needs}
 use Rattle.pages.proofs.page.push_item.Statement.{statement}
 use Rattle.pages.proofs.page.push_item.Tie as tie
 
@@ -11,30 +11,47 @@ returns : tie.Need-returns
 returns c =
     let a = c .before .before .args in over-item (a .items .now) (a .c) _ (not-true _ (c .if1 .taken))
 
+too-much-requires : tie.Need-too-much-requires
+too-much-requires c κs = search needs
+
 returns-2 : tie.Need-returns-2
 returns-2 c =
-    let a = c .before .before .before .args in full-items (a .items .now) (a .c) _ _ (not-false _ (c .before .if1 .left)) (c .if2 .taken) refl
+    let a = c .before .before .before .before .args in
+    full-items (a .items .now) (a .c) _ _ (not-false _ (c .before .before .if1 .left)) (omega arith) (c .too-much .ensures .2)
 
 wide-requires : tie.Need-wide-requires
 wide-requires c κs = search needs
 
-mul-put-item : tie.Need-mul-put-item
-mul-put-item c = search needs
+mul-copy-words : tie.Need-mul-copy-words
+mul-copy-words c = search needs
 
-put-item-requires : tie.Need-put-item-requires
-put-item-requires c κs = search needs
+slice-aggregate-copy-words : tie.Need-slice-aggregate-copy-words
+slice-aggregate-copy-words c = search needs
 
-add-t13 : tie.Need-add-t13
-add-t13 c = search needs
+copy-words-requires : tie.Need-copy-words-requires
+copy-words-requires c κs = search needs
+
+add-t16 : tie.Need-add-t16
+add-t16 c = search needs
 
 returns-3 : tie.Need-returns-3
 returns-3 c =
-    let a = c .before .before .before .before .before .before .args in
-    item-written (a .items .now) _ (a .c) _ _ (7 * c .before .wide .result)
-    (c .put-item .ensures) (omega (arith, c .before .wide .ensures)) refl (omega arith) (not-false _ (c .before .before .before .before .if1 .left))
+    let b = c .before .before .before .before .before in
+    let a = b .before .before .args in
+    item-written (a .items .now) _ (a .c) _ _ (7 * c .before .before .wide .result)
+    (c .copy-words .ensures) (omega (arith, c .before .before .wide .ensures)) refl (omega arith) (not-false _ (b .if1 .left))
     (omega arith) refl refl refl
 
 pub push-item-spec : {M : Type 1} → statement M
 push-item-spec =
     tie.close
-    (tie.spec returns returns-2 wide-requires mul-put-item put-item-requires add-t13 returns-3)
+    (tie.spec
+    returns
+    too-much-requires
+    returns-2
+    wide-requires
+    mul-copy-words
+    slice-aggregate-copy-words
+    copy-words-requires
+    add-t16
+    returns-3)

@@ -17,28 +17,38 @@ items-from-requires c κs = search needs
 new-width-requires : tie.Need-new-width-requires
 new-width-requires c κs = search needs
 
+too-much-requires : tie.Need-too-much-requires
+too-much-requires c κs = search needs
+
 returns-2 : tie.Need-returns-2
 returns-2 c =
-    let b = c .before .before .before .before in
+    let b = c .before .before .before .before .before in
     let a = b .before .before .before .args in
     full-nodes (a .nodes .now) (a .rows .now) (a .c) (a .first) (a .head) (a .extra) _
-    (not-false _ (b .before .if1 .left)) (c .if2 .taken) refl
+    (not-false _ (b .before .if1 .left)) (omega arith) (c .too-much .ensures .2)
+
+too-much-requires-2 : tie.Need-too-much-requires-2
+too-much-requires-2 c κs = search needs
 
 returns-3 : tie.Need-returns-3
 returns-3 c =
-    let b = c .before .before .before .before .before in
+    let b = c .before .before .before .before .before .before in
     let a = b .before .before .before .args in
     wide-node (a .nodes .now) (a .rows .now) (a .c) (a .first) (a .head) (a .extra) _ (not-false _ (b .before .if1 .left)) _
-    (rw (b .items-from .ensures) at (c .before .before .new-width .ensures)) (c .if3 .taken) refl
+    (rw (b .items-from .ensures) at (c .before .before .before .new-width .ensures)) (c .before .if3 .taken)
+    (c .too-much2 .ensures .2)
 
 wide-requires : tie.Need-wide-requires
 wide-requires c κs = search needs
 
-mul-put-node : tie.Need-mul-put-node
-mul-put-node c = search needs
+mul-copy-words : tie.Need-mul-copy-words
+mul-copy-words c = search needs
 
-put-node-requires : tie.Need-put-node-requires
-put-node-requires c κs = search needs
+slice-aggregate-copy-words : tie.Need-slice-aggregate-copy-words
+slice-aggregate-copy-words c = search needs
+
+copy-words-requires : tie.Need-copy-words-requires
+copy-words-requires c κs = search needs
 
 cast-rows : tie.Need-cast-rows
 cast-rows c = search needs
@@ -52,16 +62,16 @@ mul-rows c = search needs
 element-write-rows : tie.Need-element-write-rows
 element-write-rows c = search needs
 
-add-t19 : tie.Need-add-t19
-add-t19 c = search needs
+add-t21 : tie.Need-add-t21
+add-t21 c = search needs
 
 returns-4 : tie.Need-returns-4
 returns-4 c =
-    let b = c .before .before .before .before .before .before .before .before .before in
+    let b = c .before .before .before .before .before .before .before .before .before .before in
     let a = b .before .before .before .args in
     node-written (a .nodes .now) (a .rows .now) (a .c) (a .first) (a .head) (a .extra) _ (not-false _ (b .before .if1 .left)) _
-    (rw (b .items-from .ensures) at (c .before .before .before .before .before .before .new-width .ensures)) _ _ (6 * c .before .before .wide .result)
-    (rw (b .items-from .ensures) at (c .before .put-node .ensures)) (omega (arith, c .before .before .wide .ensures))
+    (rw (b .items-from .ensures) at (c .before .before .before .before .before .before .before .new-width .ensures)) _ _ (6 * c .before .before .before .wide .result)
+    (rw (b .items-from .ensures) at (c .before .copy-words .ensures)) (omega (arith, c .before .before .before .wide .ensures))
     (omega arith) (cc) (omega arith) (omega arith) (omega arith) refl refl refl
 
 pub push-node-spec : {M : Type 1} → statement M
@@ -71,14 +81,17 @@ push-node-spec =
     returns
     items-from-requires
     new-width-requires
+    too-much-requires
     returns-2
+    too-much-requires-2
     returns-3
     wide-requires
-    mul-put-node
-    put-node-requires
+    mul-copy-words
+    slice-aggregate-copy-words
+    copy-words-requires
     cast-rows
     wide-requires-2
     mul-rows
     element-write-rows
-    add-t19
+    add-t21
     returns-4)

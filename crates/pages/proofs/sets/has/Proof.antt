@@ -10,7 +10,7 @@ returns : tie.Need-returns
 returns c = search needs
 
 returns-2 : tie.Need-returns-2
-returns-2 c = out-past _ _ (c .before .fits .s .fits) (c .if1 .left)
+returns-2 c = out-past _ _ (c .before .fits .set .fits) (c .if1 .left)
 
 pub has-spec : {M : Type 1} → statement M
 has-spec = tie.close (tie.spec shr-result returns returns-2)

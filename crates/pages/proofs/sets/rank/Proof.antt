@@ -16,13 +16,13 @@ rem-result c = shifted-pos _ (c .if1 .taken)
 returns : tie.Need-returns
 returns c =
     let a = c .before .args in
-    let e = ap (λ (m : ℕ). ones (a .s % m)) (shifted (a .p) (c .if1 .taken)) ∙ ones-rank (a .s) (a .p) in
-    (e, omega (arith, e, rank-le (a .s) (a .p)))
+    let e = ap (λ (m : ℕ). ones (a .set % m)) (shifted (a .position) (c .if1 .taken)) ∙ ones-rank (a .set) (a .position) in
+    (e, omega (arith, e, rank-le (a .set) (a .position)))
 
 returns-2 : tie.Need-returns-2
 returns-2 c =
-    let e = ones-all (c .before .args .s) (c .before .args .p) (c .before .fits .s .fits) (c .if1 .left) in
-    (e, omega (arith, e, rank-few (c .before .args .s) (c .before .args .p) (c .before .fits .s .fits)))
+    let e = ones-all (c .before .args .set) (c .before .args .position) (c .before .fits .set .fits) (c .if1 .left) in
+    (e, omega (arith, e, rank-few (c .before .args .set) (c .before .args .position) (c .before .fits .set .fits)))
 
 pub rank-spec : {M : Type 1} → statement M
 rank-spec = tie.close (tie.spec shl-result rem-result returns returns-2)

@@ -9,7 +9,7 @@ shl-result : tie.Need-shl-result
 shl-result c = search needs
 
 returns : tie.Need-returns
-returns c = ap (bitOr (c .args .s)) (shifted _ (c .pre))
+returns c = ap (bitOr (c .args .set)) (shifted _ (c .pre))
 
 pub with-spec : {M : Type 1} → statement M
 with-spec = tie.close (tie.spec shl-result returns)

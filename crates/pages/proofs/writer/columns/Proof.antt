@@ -40,13 +40,13 @@ loop-again : tie.Need-loop-again Inv-loop μ-loop
 loop-again c =
     let s = c .before .before .before .before .before .before in (
       search needs,
-      step (λ q. locals (s .args .tag) (s .args .a + q) 0) _ _
+      step (λ q. locals (s .args .tag) (s .args .from + q) 0) _ _
           (local-words _ _ _ _ _ (c .before .before .local .ensures) (c .before .local2 .ensures))
           (c .before .before .before .before .before .loop .inv .1) (c .push-item .ensures),
     )
 
 returns : tie.Need-returns Inv-loop μ-loop
-returns c = columns-end _ _ (c .before .loop .i) (c .before .before .args .n) (c .before .loop .inv .1) (omega arith) (omega arith)
+returns c = columns-end _ _ (c .before .loop .i) (c .before .before .args .count) (c .before .loop .inv .1) (omega arith) (omega arith)
 
 pub columns-spec : {M : Type 1} → statement M
 columns-spec =

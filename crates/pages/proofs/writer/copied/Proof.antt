@@ -46,7 +46,7 @@ loop-again c =
     let l = c .before .before .before .before .before .before in
     let s = l .before .before .args in (
       search needs,
-      step (λ k. itemWords (itemAt (s .words .now) (s .a + k))) (l .loop .i) _
+      step (λ k. itemWords (itemAt (s .words .now) (s .from + k))) (l .loop .i) _
           (copied-words (s .words .now) _ _ _ _ (c .before .before .before .tag .ensures) (c .before .before .three .ensures) (c .before .three2 .ensures))
           (l .loop .inv .1) (c .push-item .ensures),
     )

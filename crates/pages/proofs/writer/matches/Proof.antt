@@ -44,7 +44,7 @@ loop-again c = (
 )
 
 returns : tie.Need-returns Inv-loop μ-loop
-returns c = matches-end _ (c .before .loop .i) (c .before .before .args .d) (c .before .loop .inv .1) (omega arith) (omega arith)
+returns c = matches-end _ (c .before .loop .i) (c .before .before .args .count) (c .before .loop .inv .1) (omega arith) (omega arith)
 
 pub matches-spec : {M : Type 1} → statement M
 matches-spec =

@@ -11,7 +11,7 @@ use Rattle.pages.specs.Pages.{Added}
 use Rattle.pages.specs.Items.{movedWords}
 use Rattle.pages.proofs.Laws.Pages.{added-none}
 use Rattle.pages.proofs.Laws.Writer.{step}
-use Rattle.pages.proofs.Laws.Moved.{moved-end}
+use Rattle.pages.proofs.Laws.MovedItems.{moved-end}
 use Rattle.pages.proofs.writer.moved.Statement.{statement}
 use Rattle.pages.proofs.writer.moved.Tie as tie
 
@@ -47,14 +47,14 @@ loop-again c =
     let s = l .before .before .args in (
       search needs,
       λ D m.
-          step (λ k. movedWords D (algebra.shiftBoth (s .w) (s .x) (s .y)) (itemAt (s .words .now) (s .a + k))) (l .loop .i) _ refl
+          step (λ k. movedWords D (algebra.shiftBoth (s .width) (s .front) (s .between)) (itemAt (s .words .now) (s .from + k))) (l .loop .i) _ refl
           (l .loop .inv .1 D m) (c .moved-item .ensures D m),
     )
 
 returns : tie.Need-returns Inv-loop μ-loop
 returns c D m =
     let s = c .before .before .before .args in
-    moved-end D (algebra.shiftBoth (s .w) (s .x) (s .y)) (s .words .now) (s .a) (c .before .loop .i) (s .count)
+    moved-end D (algebra.shiftBoth (s .width) (s .front) (s .between)) (s .words .now) (s .from) (c .before .loop .i) (s .count)
     (c .before .loop .inv .1 D m) (omega arith) (omega arith)
 
 pub moved-spec : {M : Type 1} → statement M

@@ -1,7 +1,7 @@
 use mathlib.Core.Path.{_∙_}
 use Rattle.plan.specs.Words.{itemAt}
 use Rattle.algebra.specs.Domains.{shiftBoth}
-use Rattle.pages.proofs.Laws.Moved.{moved-copy, moved-both, added-item}
+use Rattle.pages.proofs.Laws.MovedItems.{moved-copy, moved-both, added-item}
 use borrow.Author.Needs.{needs}
 use Rattle.pages.proofs.writer.moved_item.Statement.{statement}
 use Rattle.pages.proofs.writer.moved_item.Tie as tie
@@ -23,7 +23,7 @@ returns c D m =
     let t = c .before .before .before .before in
     let s = t .before .before .before .args in
     added-item _ _
-    (moved-copy D (shiftBoth (s .w) (s .x) (s .y)) (itemAt (s .words .now) (s .j)) _ _ _ (t .before .tag .ensures)
+    (moved-copy D (shiftBoth (s .width) (s .front) (s .between)) (itemAt (s .words .now) (s .j)) _ _ _ (t .before .tag .ensures)
     (t .moved-three .ensures D m) (c .before .before .before .if1 .taken) (c .before .local .ensures))
     (c .push-item .ensures)
 
@@ -40,7 +40,7 @@ returns-2 c D m =
     let t = c .before .before .before .before in
     let s = t .before .before .before .args in
     added-item _ _
-    (moved-both D (shiftBoth (s .w) (s .x) (s .y)) (itemAt (s .words .now) (s .j)) _ _ _ (t .before .tag .ensures)
+    (moved-both D (shiftBoth (s .width) (s .front) (s .between)) (itemAt (s .words .now) (s .j)) _ _ _ (t .before .tag .ensures)
     (t .moved-three .ensures D m) (c .before .before .before .if1 .left) (c .before .moved-three2 .ensures D m))
     (c .push-item2 .ensures)
 

@@ -3,7 +3,7 @@ use native.Mathlib.Omega.{arith}
 use mathlib.Core.Path.{_∙_}
 use Rattle.plan.specs.Words.{threeAt}
 use Rattle.algebra.specs.Domains.{shiftBoth}
-use Rattle.pages.proofs.Laws.Moved.{outer-level, moved-local, moved-outer, moved-other}
+use Rattle.pages.proofs.Laws.MovedItems.{outer-level, moved-local, moved-outer, moved-other}
 use borrow.Author.Needs.{needs}
 use Rattle.pages.proofs.writer.moved_three.Statement.{statement}
 use Rattle.pages.proofs.writer.moved_three.Tie as tie
@@ -35,7 +35,7 @@ returns : tie.Need-returns
 returns c D m =
     let s = c .before .before .before .before .before .args in
     let t = c .before .before .before .three in
-    moved-local (threeAt (s .words .now) (s .j) (s .k)) (t .result) (t .ensures) D (shiftBoth (s .w) (s .x) (s .y)) _ _
+    moved-local (threeAt (s .words .now) (s .j) (s .k)) (t .result) (t .ensures) D (shiftBoth (s .width) (s .front) (s .between)) _ _
     (c .before .before .match .keys1) (c .before .both .ensures) (c .local .ensures)
 
 returns-2 : tie.Need-returns-2
@@ -44,14 +44,14 @@ returns-2 c D m =
     let t = c .before .before .before .three in
     let a = threeAt (s .args .words .now) (s .args .j) (s .args .k) in
     let level = outer-level a (t .result) (t .ensures) (s .pre .3) (c .before .before .match .keys2) in
-    moved-outer a (t .result) (t .ensures) D (shiftBoth (s .args .w) (s .args .x) (s .args .y)) _ _ (c .before .before .match .keys2)
+    moved-outer a (t .result) (t .ensures) D (shiftBoth (s .args .width) (s .args .front) (s .args .between)) _ _ (c .before .before .match .keys2)
     (c .before .place .ensures ∙ m .place (t .result .level) (t .result .value) level) (c .local2 .ensures)
 
 returns-3 : tie.Need-returns-3
 returns-3 c D m =
     let s = c .before .before .before in
     let a = threeAt (s .args .words .now) (s .args .j) (s .args .k) in
-    moved-other a (c .before .three .result) (c .before .three .ensures) D (shiftBoth (s .args .w) (s .args .x) (s .args .y))
+    moved-other a (c .before .three .result) (c .before .three .ensures) D (shiftBoth (s .args .width) (s .args .front) (s .args .between))
     (omega arith) (omega arith) (s .pre .3) (omega arith)
 
 pub moved-three-spec : {M : Type 1} → statement M

@@ -52,14 +52,14 @@ loop-again : tie.Need-loop-again Inv-loop μ-loop
 loop-again c =
     let s = c .before .before .before .before .args in
     let l = c .before .before .before .loop in
-    let f : ℕ → List ℕ = λ k. locals 7 k (s .n + rank (s .set) k) in
+    let f : ℕ → List ℕ = λ k. locals 7 k (s .behind + rank (s .set) k) in
     ⊎-elim
     (λ w. (
       search needs,
       omega (arith, w .7),
       count-in (s .set) (l .q) (l .found) _ _ (c .before .has .ensures) (l .inv .2) (w .0 .taken) (w .7),
       step-kept f (inSet (s .set)) (l .q) _ (c .before .has .ensures) (l .inv .3) _ (w .0 .taken)
-          (local-words 7 _ _ _ _ (w .2 .ensures) (local-same _ (s .n) _ _ (l .inv .2) (w .3 .ensures))) (w .5) (w .6) (w .4 .ensures),
+          (local-words 7 _ _ _ _ (w .2 .ensures) (local-same _ (s .behind) _ _ (l .inv .2) (w .3 .ensures))) (w .5) (w .6) (w .4 .ensures),
     ))
     (λ w. (
       search needs,

@@ -56,8 +56,8 @@ loop-again c =
     let l = i .before .before .before in
     let s = l .before .before .args in (
       search needs,
-      step (λ k. shiftedWords (s .d) (itemAt (s .words .now) (s .a + k))) (l .loop .i) _
-          (shifted-words (s .words .now) _ _ (s .d) _ (i .before .tag .ensures) _ _ (c .before .before .local .ensures) (c .before .local2 .ensures)
+      step (λ k. shiftedWords (s .front) (itemAt (s .words .now) (s .from + k))) (l .loop .i) _
+          (shifted-words (s .words .now) _ _ (s .front) _ (i .before .tag .ensures) _ _ (c .before .before .local .ensures) (c .before .local2 .ensures)
           (⊎-elim (λ w. column-moved (s .words .now) _ _ _ _ _ (w .0 .taken) (w .1 .ensures) (w .2))
           (λ w. column-none (s .words .now) _ _ _ _ (w .0 .left) (w .1)) (i .if1 .came)))
           (l .loop .inv .1) (c .push-item .ensures),

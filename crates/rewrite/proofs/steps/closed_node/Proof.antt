@@ -16,8 +16,8 @@ use Rattle.pages.specs.Sets.{members}
 use Rattle.rules.specs.Reads.{readsAt}
 use Rattle.pages.proofs.Laws.Domains.{inner-domain}
 use Rattle.pages.proofs.Laws.Limits.{node-index}
-use Rattle.rules.proofs.Laws.Put.{inner-sound, is-closed, is-open, width-is}
-use Rattle.rewrite.proofs.Laws.Closed.{keys-are, domain-over, inner-closes, copy-closes}
+use Rattle.rules.proofs.Laws.UnderDomain.{inner-sound, is-closed, is-open, width-is}
+use Rattle.rewrite.proofs.Laws.ClosedNodes.{keys-are, domain-over, inner-closes, copy-closes}
 use borrow.Author.Needs.{needs}
 use Rattle.rewrite.proofs.steps.closed_node.Statement.{statement}
 use Rattle.rewrite.proofs.steps.closed_node.Tie as tie
@@ -41,17 +41,17 @@ eight c = sym (c .before .before .before .operator .ensures) ∙ c .before .befo
 
 -- the inputs are nodes of the plan
 there-left : (c : tie.After-right) → left-of c < nodes (ws c)
-there-left c = dependent-left (ws c) (start c .pre .0 .formed) (start c .args .n) (start c .pre .1) (eight c)
+there-left c = dependent-left (ws c) (start c .pre .0 .0 .formed) (start c .args .n) (start c .pre .0 .1) (eight c)
 
 there-right : (c : tie.After-right) → right-of c < nodes (ws c)
-there-right c = dependent-right (ws c) (start c .pre .0 .formed) (start c .args .n) (start c .pre .1) (eight c)
+there-right c = dependent-right (ws c) (start c .pre .0 .0 .formed) (start c .args .n) (start c .pre .0 .1) (eight c)
 
 -- they have their places in the tables
 low-left : (c : tie.After-right) → c .before .left .result < 256
-low-left c = node-index (start c .pre .0) (there-left c) (c .before .left .ensures)
+low-left c = node-index (start c .pre .0 .0) (there-left c) (c .before .left .ensures)
 
 low-right : (c : tie.After-right) → c .right .result < 256
-low-right c = node-index (start c .pre .0) (there-right c) (c .right .ensures)
+low-right c = node-index (start c .pre .0 .0) (there-right c) (c .right .ensures)
 
 -- ---- where the right side is open
 
@@ -62,7 +62,7 @@ open-right : (c : tie.Then2)
     → closed (shapeAt (widthsOf (ws (inputs c))) (nodesOf (ws (inputs c))) (right-of (inputs c))) ≡ false
 open-right c =
     let r = inputs c in
-    is-open (ws r) (start r .args .reaches .now) (start r .pre .3) (there-right r) (c .before .before .wide .ensures ∙ r .right .ensures)
+    is-open (ws r) (start r .args .reaches .now) (start r .pre .2 .0) (there-right r) (c .before .before .wide .ensures ∙ r .right .ensures)
     (λ e. omega (arith, e, c .if2 .taken))
 
 -- the set of the keys is there
@@ -78,8 +78,8 @@ keys : (c : tie.After-key-set)
 keys c =
     let r = opened c in
     let s = start r in
-    keys-are (s .pre .0) (s .pre .1) (eight r) (s .pre .2) (open-right (chosen c)) (s .args .reads .now) (c .key-set .result)
-    (c .before .outside .ensures) (s .pre .5) (r .right .ensures) (c .key-set .ensures)
+    keys-are (s .pre .0 .0) (s .pre .0 .1) (eight r) (s .pre .1) (open-right (chosen c)) (s .args .reads .now) (c .key-set .result)
+    (c .before .outside .ensures) (s .pre .2 .2) (r .right .ensures) (c .key-set .ensures)
 
 -- where the left side stands
 abbrev image-at : tie.After-key-set → ℕ → ℕ
@@ -124,14 +124,14 @@ left-width : (c : tie.After-last2)
 left-width c =
     let r = both c in
     let s = start r in
-    width-is (s .pre .0) (there-left r) (s .args .widths .now) (s .pre .4) (r .before .left .ensures) (left-wide c .wide3 .ensures)
+    width-is (s .pre .0 .0) (there-left r) (s .args .widths .now) (s .pre .2 .1) (r .before .left .ensures) (left-wide c .wide3 .ensures)
 
 right-width : (c : tie.After-last2)
     → getD (start (both c) .args .widths .now) (right-wide c .wide4 .result) 0 ≡ widthAt (ws (both c)) (right-of (both c))
 right-width c =
     let r = both c in
     let s = start r in
-    width-is (s .pre .0) (there-right r) (s .args .widths .now) (s .pre .4) (r .right .ensures) (right-wide c .wide4 .ensures)
+    width-is (s .pre .0 .0) (there-right r) (s .args .widths .now) (s .pre .2 .1) (r .right .ensures) (right-wide c .wide4 .ensures)
 
 -- ---- where there is no dependent join, or its right side is closed
 
@@ -144,10 +144,10 @@ closed-right : (c : tie.Joined1) → operator (begin c .args .words .now) (begin
     ≡ true
 closed-right c e =
     let s = begin c in
-    let below = dependent-right (s .args .words .now) (s .pre .0 .formed) (s .args .n) (s .pre .1) e in
+    let below = dependent-right (s .args .words .now) (s .pre .0 .0 .formed) (s .args .n) (s .pre .0 .1) e in
     ⊎-elim
     (λ w.
-    is-closed (s .args .words .now) (s .args .reaches .now) (s .pre .3) below (w .3 .ensures ∙ w .2 .ensures) (omega (arith, w .5 .left)))
+    is-closed (s .args .words .now) (s .args .reaches .now) (s .pre .2 .0) below (w .3 .ensures ∙ w .2 .ensures) (omega (arith, w .5 .left)))
     (λ w. absurd (w .left (c .before .operator .ensures ∙ e)))
     (c .if1 .came)
 
@@ -174,11 +174,11 @@ element-copy-out-if2 c = omega (arith, low-right (c .before), c .wide .ensures)
 wide-requires-2 : tie.Need-wide-requires-2
 wide-requires-2 c κs = search needs
 
-mul-i : tie.Need-mul-i
-mul-i c = search needs
+mul-left-node : tie.Need-mul-left-node
+mul-left-node c = search needs
 
-element-copy-out-i : tie.Need-element-copy-out-i
-element-copy-out-i c = omega (arith, low-left (inputs (c .before)), c .wide2 .ensures)
+element-copy-out-left-node : tie.Need-element-copy-out-left-node
+element-copy-out-left-node c = omega (arith, low-left (inputs (c .before)), c .wide2 .ensures)
 
 outside-requires : tie.Need-outside-requires
 outside-requires c κs = search needs
@@ -194,7 +194,7 @@ returns c =
     let k = keyed (c .before) in
     let r = opened k in
     let s = start r in
-    domain-over (s .pre .0) (s .pre .1) (eight r) (s .pre .2) (open-right (chosen k)) (s .args .images .now) (members (k .key-set .result))
+    domain-over (s .pre .0 .0) (s .pre .0 .1) (eight r) (s .pre .1) (open-right (chosen k)) (s .args .images .now) (members (k .key-set .result))
     (keys k) (image k) (c .before .before .domain-node .ensures) (not-true _ (c .if3 .taken))
 
 last-requires : tie.Need-last-requires
@@ -208,14 +208,8 @@ put-requires c κs =
     let n = c .before .before .before in
     let k = keyed (n .before .before .before) in
     let r = opened k in
-    let s = start r in (
-      s .pre .0,
-      rw (r .right .ensures) (there-right r),
-      inner-sound (n .inner .ensures) (omega (arith, k .key-set .ok)),
-      s .pre .3,
-      s .pre .4,
-      s .pre .5,
-    )
+    let s = start r in
+    ((s .pre .0 .0, rw (r .right .ensures) (there-right r), inner-sound (n .inner .ensures) (omega (arith, k .key-set .ok))), s .pre .2)
 
 wide-requires-3 : tie.Need-wide-requires-3
 wide-requires-3 c κs = search needs
@@ -243,12 +237,9 @@ with-inner-requires c κs =
     let w = c .before .before .before in
     let r = both w in
     let s = start r in (
-      s .pre .0,
-      s .pre .1,
+      (s .pre .0 .0, s .pre .0 .1, keyed (domained (under w)) .before .outside .ensures .narrow),
       eight r,
-      keyed (domained (under w)) .before .outside .ensures .narrow,
-      rw (left-width w) (s .pre .0 .narrow _ (there-left r)),
-      rw (right-width w) (s .pre .0 .narrow _ (there-right r)),
+      (rw (left-width w) (s .pre .0 .0 .narrow _ (there-left r)), rw (right-width w) (s .pre .0 .0 .narrow _ (there-right r))),
     )
 
 returns-2 : tie.Need-returns-2
@@ -259,7 +250,7 @@ returns-2 c =
     let r = both w in
     let s = start r in
     let d = k .before .outside .ensures in
-    inner-closes (s .pre .0) (s .pre .1) (eight r) (s .pre .2) (open-right (chosen k)) (s .args .images .now) (members (k .key-set .result))
+    inner-closes (s .pre .0 .0) (s .pre .0 .1) (eight r) (s .pre .1) (open-right (chosen k)) (s .args .images .now) (members (k .key-set .result))
     (keys k) (image k) (domained p .before .domain-node .ensures) (not-false _ (fits p .if3 .left)) (new p .before .last .ensures)
     (inner-domain (widthAt (ws r) (left-of r)) (readsAt (ws r) (right-of r)) (new p .inner .ensures) d (sym (keys k)) (omega (arith, k .key-set .ok)))
     (r .right .ensures) (p .put .ensures) (left-width w) (right-width w) (w .last2 .ensures) (c .with-inner .ensures outside d)
@@ -270,7 +261,7 @@ copy-node-requires c κs = search needs
 returns-3 : tie.Need-returns-3
 returns-3 c =
     let j = c .before .before .before .before in
-    copy-closes (begin j .pre .0) (begin j .pre .1) _ (closed-right j) (c .copy-node .ensures) refl
+    copy-closes (begin j .pre .0 .0) (begin j .pre .0 .1) _ (closed-right j) (c .copy-node .ensures) refl
 
 pub closed-node-spec : {M : Type 1} → statement M
 closed-node-spec =
@@ -283,8 +274,8 @@ closed-node-spec =
     mul-if2
     element-copy-out-if2
     wide-requires-2
-    mul-i
-    element-copy-out-i
+    mul-left-node
+    element-copy-out-left-node
     outside-requires
     key-set-requires
     domain-node-requires

@@ -5,8 +5,8 @@ use Prim.Native.Nat.{ℕ, _-_, _<_, _≤_}
 use native.Mathlib.Omega.{arith}
 use Rattle.plan.specs.Words.{nodes}
 use Rattle.pages.proofs.Laws.Limits.{node-index}
-use Rattle.rules.proofs.Laws.Put.{is-closed, is-open}
-use Rattle.rewrite.proofs.Laws.Steps.{Stepped, stepped-none, stepped-open, stepped-closed, stepped-all}
+use Rattle.rules.proofs.Laws.UnderDomain.{is-closed, is-open}
+use Rattle.rewrite.proofs.Laws.FirstNodes.{Stepped, stepped-none, stepped-open, stepped-closed, stepped-all}
 use borrow.Author.Needs.{needs}
 use Rattle.rewrite.proofs.steps.rewrite_nodes.Statement.{statement}
 use Rattle.rewrite.proofs.steps.rewrite_nodes.Tie as tie
@@ -54,8 +54,8 @@ closed-node-requires c κs =
     let t = c .before .before .before .before .before .before .before in
     let s = start t in
     let i = c .before .before .before .before in
-    let shut = is-closed (ws t) (s .args .reaches .now) (s .pre .1) (low t) (i .before .before .wide .ensures) (i .if1 .taken) in
-    (s .pre .0, low t, shut, s .pre .1, s .pre .2, s .pre .3)
+    let shut = is-closed (ws t) (s .args .reaches .now) (s .pre .1 .0) (low t) (i .before .before .wide .ensures) (i .if1 .taken) in
+    ((s .pre .0, low t), shut, s .pre .1)
 
 last-requires : tie.Need-last-requires Inv-loop μ-loop
 last-requires c κs = search needs
@@ -84,12 +84,12 @@ loop-again c =
       ⊎-elim
           (λ w.
           stepped-closed (ws t) (s .pre .0) _ (low t)
-          (is-closed (ws t) (s .args .reaches .now) (s .pre .1) (low t) (c .before .before .wide .ensures) (w .0 .taken)) _ _ before
+          (is-closed (ws t) (s .args .reaches .now) (s .pre .1 .0) (low t) (c .before .before .wide .ensures) (w .0 .taken)) _ _ before
           (w .5 .ensures) (w .6 .ensures) (w .7 .ensures) (few t _ refl)
           (w .8) (w .9) (w .10) (w .11) (w .12))
           (λ w.
           stepped-open (ws t) (s .pre .0) _ (low t)
-          (is-open (ws t) (s .args .reaches .now) (s .pre .1) (low t) (c .before .before .wide .ensures) (w .0 .left)) before
+          (is-open (ws t) (s .args .reaches .now) (s .pre .1 .0) (low t) (c .before .before .wide .ensures) (w .0 .left)) before
           (w .1) (w .2) (w .3) (w .4) (w .5))
           (c .if1 .came),
     )

@@ -1,4 +1,4 @@
-use Rattle.rules.proofs.Laws.Finish.{count-some, count-all}
+use Rattle.rules.proofs.Laws.RulePages.{count-some, count-all}
 use borrow.Author.Needs.{needs}
 use Rattle.rules.proofs.finish.conjunct_count.Statement.{statement}
 use Rattle.rules.proofs.finish.conjunct_count.Tie as tie

@@ -6,10 +6,10 @@ use Rattle.plan.specs.Plan.{nodeAt}
 use Rattle.algebra.specs.Plan.{Node}
 use Rattle.algebra.specs.Domains.{Domain}
 use Rattle.rules.specs.Under.{overInput}
-use Rattle.pages.proofs.Laws.Pages.{added-then}
-use Rattle.rules.proofs.Laws.Sorted.{Read, read-node, within, outputs-small, group-small, movable, all-conjuncts, one-input}
-use Rattle.rules.proofs.Laws.Emitted.{project-over, group-none, group-some, moved-over}
-use Rattle.rules.proofs.Laws.Finish.{grows}
+use Rattle.pages.proofs.Laws.Pages.{added-then, pushed-as}
+use Rattle.rules.proofs.Laws.ItemSorts.{Read, read-node, within, outputs-small, group-small, movable, all-conjuncts, one-input}
+use Rattle.rules.proofs.Laws.OneInputNodes.{project-over, group-none, group-some, moved-over}
+use Rattle.rules.proofs.Laws.RulePages.{grows}
 use borrow.Author.Needs.{needs}
 use Rattle.rules.proofs.finish.over_input.Statement.{statement}
 use Rattle.rules.proofs.finish.over_input.Tie as tie
@@ -26,11 +26,11 @@ abbrev ws : tie.Start → List ℕ
 ws s = s .args .words .now
 
 node-read : (c : tie.After-item-count) → Read (ws (start c)) (start c .args .n) (c .before .first-item .result) (c .item-count .result)
-node-read c = read-node (start c .pre .0) (start c .pre .1) (c .before .first-item .ensures) (c .item-count .ensures)
+node-read c = read-node (start c .pre .0 .0) (start c .pre .0 .1) (c .before .first-item .ensures) (c .item-count .ensures)
 
 -- what is to be written under D
 abbrev emitted : tie.Start → Domain → Node
-emitted s D = overInput D (s .args .i) (nodeAt (ws s) (s .args .n))
+emitted s D = overInput D (s .args .input) (nodeAt (ws s) (s .args .n))
 
 -- ---- a project
 
@@ -72,7 +72,10 @@ shifted-requires : tie.Need-shifted-requires
 shifted-requires c κs =
     let p = projecting (c .before) in
     let r = node-read (p .before) in
-    (within r, start (p .before) .pre .4, outputs-small r (project p))
+    (within r, start (p .before) .pre .0 .2, outputs-small r (project p))
+
+over-requires : tie.Need-over-requires
+over-requires c κs = search needs
 
 push-node-requires : tie.Need-push-node-requires
 push-node-requires c κs = search needs
@@ -80,11 +83,12 @@ push-node-requires c κs = search needs
 returns : tie.Need-returns
 returns c =
     λ D m.
-    let q = c .before .before .before in
+    let q = c .before .before .before .before in
     let p = projecting (q .before .before) in
     let s = start (p .before) in
-    grows _ (emitted s D) (added-then _ _ (q .before .before .columns .ensures) (q .shifted .ensures)) (c .push-node .ensures)
-    (project-over (node-read (p .before)) D (s .args .i) (m .width) (project p))
+    grows _ (emitted s D) (added-then _ _ (q .before .before .columns .ensures) (q .shifted .ensures))
+    (pushed-as (c .before .over .ensures) (c .push-node .ensures))
+    (project-over (node-read (p .before)) D (s .args .input) (m .width) (project p))
 
 count-tagged-requires : tie.Need-count-tagged-requires
 count-tagged-requires c κs = within (node-read (c .before .before))
@@ -96,7 +100,10 @@ shifted-requires-2 : tie.Need-shifted-requires-2
 shifted-requires-2 c κs =
     let g = keyless (c .before) .before in
     let r = node-read (read g) in
-    (within r, start (read g) .pre .4, group-small r (group g))
+    (within r, start (read g) .pre .0 .2, group-small r (group g))
+
+groupjoin-requires : tie.Need-groupjoin-requires
+groupjoin-requires c κs = search needs
 
 push-node-requires-2 : tie.Need-push-node-requires-2
 push-node-requires-2 c κs = search needs
@@ -104,12 +111,13 @@ push-node-requires-2 c κs = search needs
 returns-2 : tie.Need-returns-2
 returns-2 c =
     λ D m.
-    let q = c .before .before .before in
+    let q = c .before .before .before .before in
     let k = keyless (q .before .before) in
     let g = k .before in
     let s = start (read g) in
-    grows _ (emitted s D) (added-then _ _ (q .before .before .matches .ensures) (q .shifted2 .ensures)) (c .push-node2 .ensures)
-    (group-none (node-read (read g)) D (s .args .i) (m .width) (group g) (g .count-tagged .ensures) (k .if3 .taken) (s .args .d .node) (m .node))
+    grows _ (emitted s D) (added-then _ _ (q .before .before .matches .ensures) (q .shifted2 .ensures))
+    (pushed-as (c .before .groupjoin .ensures) (c .push-node2 .ensures))
+    (group-none (node-read (read g)) D (s .args .input) (m .width) (group g) (g .count-tagged .ensures) (k .if3 .taken) (s .args .d .node) (m .node))
 
 columns-requires-2 : tie.Need-columns-requires-2
 columns-requires-2 c κs = search needs
@@ -118,7 +126,10 @@ shifted-requires-3 : tie.Need-shifted-requires-3
 shifted-requires-3 c κs =
     let g = keyed (c .before) .before in
     let r = node-read (read g) in
-    (within r, start (read g) .pre .4, group-small r (group g))
+    (within r, start (read g) .pre .0 .2, group-small r (group g))
+
+over-requires-2 : tie.Need-over-requires-2
+over-requires-2 c κs = search needs
 
 push-node-requires-3 : tie.Need-push-node-requires-3
 push-node-requires-3 c κs = search needs
@@ -126,12 +137,13 @@ push-node-requires-3 c κs = search needs
 returns-3 : tie.Need-returns-3
 returns-3 c =
     λ D m.
-    let q = c .before .before .before in
+    let q = c .before .before .before .before in
     let k = keyed (q .before .before) in
     let g = k .before in
     let s = start (read g) in
-    grows _ (emitted s D) (added-then _ _ (q .before .before .columns2 .ensures) (q .shifted3 .ensures)) (c .push-node3 .ensures)
-    (group-some (node-read (read g)) D (s .args .i) (m .width) (group g) (g .count-tagged .ensures) (k .if3 .left))
+    grows _ (emitted s D) (added-then _ _ (q .before .before .columns2 .ensures) (q .shifted3 .ensures))
+    (pushed-as (c .before .over2 .ensures) (c .push-node3 .ensures))
+    (group-some (node-read (read g)) D (s .args .input) (m .width) (group g) (g .count-tagged .ensures) (k .if3 .left))
 
 moved-requires : tie.Need-moved-requires
 moved-requires c κs =
@@ -141,8 +153,11 @@ moved-requires c κs =
       within r,
       search needs,
       search needs,
-      movable r (λ q. c .before .before .if1 .left (o ∙ q)) (λ q. c .before .if2 .left (o ∙ q)) (all-conjuncts r (one-input (start i .pre .3))),
+      movable r (λ q. c .before .before .if1 .left (o ∙ q)) (λ q. c .before .if2 .left (o ∙ q)) (all-conjuncts r (one-input (start i .pre .1 .1))),
     )
+
+over-requires-3 : tie.Need-over-requires-3
+over-requires-3 c κs = search needs
 
 push-node-requires-4 : tie.Need-push-node-requires-4
 push-node-requires-4 c κs = search needs
@@ -150,12 +165,12 @@ push-node-requires-4 c κs = search needs
 returns-4 : tie.Need-returns-4
 returns-4 c =
     λ D m.
-    let q = c .before .before .before in
+    let q = c .before .before .before .before in
     let neither = q .before .before in
     let i = neither .before .before in
     let s = start i in
-    grows _ (emitted s D) (q .moved .ensures D m) (c .push-node4 .ensures)
-    (moved-over (node-read i) D (s .args .i) (m .width) (s .pre .2) (s .pre .3) (named i .operator .ensures) (neither .before .if1 .left) (neither .if2 .left))
+    grows _ (emitted s D) (q .moved .ensures D m) (pushed-as (c .before .over3 .ensures) (c .push-node4 .ensures))
+    (moved-over (node-read i) D (s .args .input) (m .width) (s .pre .1 .0) (s .pre .1 .1) (named i .operator .ensures) (neither .before .if1 .left) (neither .if2 .left))
 
 pub over-input-spec : {M : Type 1} → statement M
 over-input-spec =
@@ -166,17 +181,21 @@ over-input-spec =
     item-count-requires
     columns-requires
     shifted-requires
+    over-requires
     push-node-requires
     returns
     count-tagged-requires
     matches-requires
     shifted-requires-2
+    groupjoin-requires
     push-node-requires-2
     returns-2
     columns-requires-2
     shifted-requires-3
+    over-requires-2
     push-node-requires-3
     returns-3
     moved-requires
+    over-requires-3
     push-node-requires-4
     returns-4)

@@ -8,10 +8,10 @@ use Rattle.plan.specs.Words as words
 use Rattle.plan.specs.Items.{conjunctsIn, aggregatesIn}
 use Rattle.plan.specs.Plan.{kindOf, nodeAt}
 use Rattle.rules.specs.Under.{withOpen}
-use Rattle.pages.proofs.Laws.Pages.{added-then}
-use Rattle.rules.proofs.Laws.Sorted.{Read, read-node, within, fronts, movable, groupjoin-small, groupjoin-conjuncts, no-project, no-group}
-use Rattle.rules.proofs.Laws.Joined.{join-open, groupjoin-open, open-join, open-groupjoin}
-use Rattle.rules.proofs.Laws.Finish.{grows, grows-as, drops}
+use Rattle.pages.proofs.Laws.Pages.{added-then, pushed-as}
+use Rattle.rules.proofs.Laws.ItemSorts.{Read, read-node, within, fronts, movable, groupjoin-small, groupjoin-conjuncts, no-project, no-group}
+use Rattle.rules.proofs.Laws.JoinNodes.{join-open, groupjoin-open, open-join, open-groupjoin}
+use Rattle.rules.proofs.Laws.RulePages.{grows, grows-as, drops}
 use borrow.Author.Needs.{needs}
 use Rattle.rules.proofs.finish.with_open.Statement.{statement}
 use Rattle.rules.proofs.finish.with_open.Tie as tie
@@ -23,7 +23,7 @@ start c = c .before .before .before
 
 node-read : (c : tie.After-item-count)
     → Read (start c .args .words .now) (start c .args .n) (c .before .first-item .result) (c .item-count .result)
-node-read c = read-node (start c .pre .0) (start c .pre .1) (c .before .first-item .ensures) (c .item-count .ensures)
+node-read c = read-node (start c .pre .0 .0) (start c .pre .0 .1) (c .before .first-item .ensures) (c .item-count .ensures)
 
 -- its conjuncts, and what stands behind them, are within the limits
 few : (c : tie.After-conjunct-count)
@@ -50,7 +50,7 @@ items c = words.itemsFrom (first c .args .words .now) (known c .before .before .
 
 -- what is to be written under D
 abbrev emitted : tie.After-operator → Domain → List Node → List Node
-emitted c D = let a = first c .args in withOpen D (a .wl) (a .wr) (a .i) (a .j) (nodeAt (a .words .now) (a .n))
+emitted c D = let a = first c .args in withOpen D (a .left-width) (a .right-width) (a .left) (a .right) (nodeAt (a .words .now) (a .n))
 
 -- a groupjoin
 seven : (c : tie.Then1) → words.operator (first (c .before) .args .words .now) (first (c .before) .args .n) ≡ 7
@@ -65,7 +65,7 @@ item-count-requires : tie.Need-item-count-requires
 item-count-requires c κs = search needs
 
 conjunct-count-requires : tie.Need-conjunct-count-requires
-conjunct-count-requires c κs = within (read-node (start c .pre .0) (start c .pre .1) refl refl)
+conjunct-count-requires c κs = within (read-node (start c .pre .0 .0) (start c .pre .0 .1) refl refl)
 
 add-matches : tie.Need-add-matches
 add-matches c = search needs
@@ -76,7 +76,7 @@ matches-requires c κs = search needs
 moved-requires : tie.Need-moved-requires
 moved-requires c κs =
     let k = c .before .before .before in
-    let two = start (k .before) .pre .2 in
+    let two = start (k .before) .pre .1 in
     (few k .1, search needs, search needs, movable (node-read (k .before)) (no-project two) (no-group two) (k .conjunct-count .ensures))
 
 operator-requires : tie.Need-operator-requires
@@ -93,10 +93,13 @@ shifted-requires c κs =
     let t = c .before in
     let k = known (t .before) in
     let r = node-read (k .before) in
-    (few k .2, first (t .before) .pre .3, groupjoin-small r (seven t) (k .conjunct-count .ensures ∙ groupjoin-conjuncts r (seven t)))
+    (few k .2, first (t .before) .pre .0 .2, groupjoin-small r (seven t) (k .conjunct-count .ensures ∙ groupjoin-conjuncts r (seven t)))
+
+groupjoin-requires : tie.Need-groupjoin-requires
+groupjoin-requires c κs = search needs
 
 sub-push-node : tie.Need-sub-push-node
-sub-push-node c = let f = few (known (c .before .before .before .before .before)) in omega arith
+sub-push-node c = let f = few (known (c .before .before .before .before .before .before)) in omega arith
 
 push-node-requires : tie.Need-push-node-requires
 push-node-requires c κs = search needs
@@ -104,49 +107,53 @@ push-node-requires c κs = search needs
 returns : tie.Need-returns
 returns c =
     λ D m.
-    let q = c .before .before .before in
+    let q = c .before .before .before .before in
     let t = q .before .before in
     let o = t .before in
     let r = node-read (known o .before) in
-    let two = first o .pre .2 in
+    let two = first o .pre .1 in
     let a = first o .args in
     let gs = map (moveAggregate (shift (D .width))) (aggregatesIn (items o)) in
-    grows-as _ (emitted o D) (λ out. open-groupjoin r two D (a .wl) (a .wr) (a .i) (a .j) (m .width) out (seven t))
-    (grows _ (groupjoin (underBoth D (a .wl) (conjunctsIn (items o))) gs (a .i) (a .j))
+    grows-as _ (emitted o D) (λ out. open-groupjoin r two D (a .left-width) (a .right-width) (a .left) (a .right) (m .width) out (seven t))
+    (grows _ (groupjoin (underBoth D (a .left-width) (conjunctsIn (items o))) gs (a .left) (a .right))
     (added-then _ _ (added-then _ _ (moved o .before .before .matches .ensures) (moved o .moved .ensures D m)) (q .shifted .ensures))
-    (c .push-node .ensures)
-    (groupjoin-open r two D (a .i) (a .j) (m .width) (known o .conjunct-count .ensures) (a .wl) (seven t)))
+    (pushed-as (c .before .groupjoin .ensures) (c .push-node .ensures))
+    (groupjoin-open r two D (a .left) (a .right) (m .width) (known o .conjunct-count .ensures) (a .left-width) (seven t)))
 
 kind-requires : tie.Need-kind-requires
 kind-requires c κs = search needs
+
+join-requires : tie.Need-join-requires
+join-requires c κs = search needs
 
 push-node-requires-2 : tie.Need-push-node-requires-2
 push-node-requires-2 c κs = search needs
 
 add-drop-columns : tie.Need-add-drop-columns
-add-drop-columns c = let p = first (c .before .before .before .before .before) .pre in omega arith
+add-drop-columns c = let p = first (c .before .before .before .before .before .before) .pre in omega arith
 
 drop-columns-requires : tie.Need-drop-columns-requires
 drop-columns-requires c κs =
-    let p = first (c .before .before .before .before .before .before .before .before) .pre in
+    let p = first (c .before .before .before .before .before .before .before .before .before) .pre in
     (omega arith, omega arith, omega arith)
 
 returns-2 : tie.Need-returns-2
 returns-2 c =
     λ D m.
     let n = c .before .before .before .before in
-    let k = n .before .before .before in
+    let k = n .before .before .before .before in
     let e = k .before in
     let o = e .before in
     let r = node-read (known o .before) in
-    let two = first o .pre .2 in
+    let two = first o .pre .1 in
     let a = first o .args in
     let q : words.operator (a .words .now) (a .n) ≡ 7 → ⊥ = λ s. e .if1 .left (o .operator .ensures ∙ s) in
-    let x = join (kindOf (words.kind (a .words .now) (a .n))) (underBoth D (a .wl) (conjunctsIn (items o))) (a .i) (a .j) in
-    grows-as _ (emitted o D) (λ out. open-join r two D (a .wl) (a .wr) (a .i) (a .j) (m .width) out q (k .kind .ensures))
-    (drops _ (a .d .width + a .wl) (a .d .width) (a .wr) x
-    (grows _ x (added-then _ _ (moved o .before .before .matches .ensures) (moved o .moved .ensures D m)) (n .push-node2 .ensures)
-    (join-open r two D (a .i) (a .j) (m .width) (known o .conjunct-count .ensures) (a .wl) q (k .kind .ensures)))
+    let x = join (kindOf (words.kind (a .words .now) (a .n))) (underBoth D (a .left-width) (conjunctsIn (items o))) (a .left) (a .right) in
+    grows-as _ (emitted o D) (λ out. open-join r two D (a .left-width) (a .right-width) (a .left) (a .right) (m .width) out q (k .kind .ensures))
+    (drops _ (a .d .width + a .left-width) (a .d .width) (a .right-width) x
+    (grows _ x (added-then _ _ (moved o .before .before .matches .ensures) (moved o .moved .ensures D m))
+    (pushed-as (n .before .join .ensures) (n .push-node2 .ensures))
+    (join-open r two D (a .left) (a .right) (m .width) (known o .conjunct-count .ensures) (a .left-width) q (k .kind .ensures)))
     (c .drop-columns .ensures))
 
 pub with-open-spec : {M : Type 1} → statement M
@@ -163,10 +170,12 @@ with-open-spec =
     add-shifted
     sub-shifted
     shifted-requires
+    groupjoin-requires
     sub-push-node
     push-node-requires
     returns
     kind-requires
+    join-requires
     push-node-requires-2
     add-drop-columns
     drop-columns-requires

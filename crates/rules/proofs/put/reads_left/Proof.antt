@@ -9,7 +9,7 @@ operator-requires c κs = search needs
 returns : tie.Need-returns
 returns c =
     let s = c .before .before .before in
-    left-unread (s .args .words .now) (s .pre .0) (s .args .n) (s .pre .1) (c .before .operator .ensures) (c .if1 .taken)
+    left-unread (s .args .words .now) (s .pre .0 .0) (s .args .n) (s .pre .0 .1) (c .before .operator .ensures) (c .if1 .taken)
 
 right-requires : tie.Need-right-requires
 right-requires c κs = search needs
@@ -27,7 +27,7 @@ element-copy-out-rank : tie.Need-element-copy-out-rank
 element-copy-out-rank c =
     let o = c .before .before .before in
     let s = o .before .before in
-    right-index (s .args .words .now) (s .pre .0) (s .args .n) (s .pre .1) (o .operator .ensures) (c .before .before .if1 .left)
+    right-index (s .args .words .now) (s .pre .0 .0) (s .args .n) (s .pre .0 .1) (o .operator .ensures) (c .before .before .if1 .left)
     (c .before .right .ensures) (c .wide .ensures)
 
 rank-requires : tie.Need-rank-requires
@@ -38,9 +38,9 @@ returns-2 c =
     let w = c .before .before in
     let o = w .before .before .before in
     let s = o .before .before in
-    left-read (s .args .words .now) (s .pre .0) (s .args .n) (s .pre .1) (o .operator .ensures) (w .before .before .if1 .left) (w .before .right .ensures)
+    left-read (s .args .words .now) (s .pre .0 .0) (s .args .n) (s .pre .0 .1) (o .operator .ensures) (w .before .before .if1 .left) (w .before .right .ensures)
     (w .wide .ensures)
-    (s .args .reads .now) (s .pre .2) (c .rank .ensures .0)
+    (s .args .reads .now) (s .pre .1) (c .rank .ensures .0)
 
 pub reads-left-spec : {M : Type 1} → statement M
 reads-left-spec =

@@ -35,29 +35,29 @@ add-add-term : tie.Need-add-add-term Inv-loop μ-loop
 add-add-term c =
     let l = c .before in
     let s = l .before .before .before .before .before .before in
-    let w = items-within (s .pre .0) (s .pre .1) (l .before .before .first-item .ensures) (l .before .item-count .ensures) in
+    let w = items-within (s .pre .0 .0) (s .pre .0 .1) (l .before .before .first-item .ensures) (l .before .item-count .ensures) in
     search needs
 
 add-term-requires : tie.Need-add-term-requires Inv-loop μ-loop
 add-term-requires c κs =
     let l = c .before .before in
     let s = l .before .before .before .before .before .before in
-    (node-index (s .pre .0) (s .pre .1) refl, omega arith, l .loop .inv .1 .size ∙ l .before .before .before .add-inputs .ensures .size ∙ s .pre .2 .size)
+    (node-index (s .pre .0 .0) (s .pre .0 .1) refl, omega arith, l .loop .inv .1 .size ∙ l .before .before .before .add-inputs .ensures .size ∙ s .pre .1 .size)
 
 add-add-term-2 : tie.Need-add-add-term-2 Inv-loop μ-loop
 add-add-term-2 c =
     let l = c .before .before .before in
     let s = l .before .before .before .before .before .before in
-    let w = items-within (s .pre .0) (s .pre .1) (l .before .before .first-item .ensures) (l .before .item-count .ensures) in
+    let w = items-within (s .pre .0 .0) (s .pre .0 .1) (l .before .before .first-item .ensures) (l .before .item-count .ensures) in
     search needs
 
 add-term-requires-2 : tie.Need-add-term-requires-2 Inv-loop μ-loop
 add-term-requires-2 c κs =
     let l = c .before .before .before .before in
     let s = l .before .before .before .before .before .before in (
-      node-index (s .pre .0) (s .pre .1) refl,
+      node-index (s .pre .0 .0) (s .pre .0 .1) refl,
       omega arith,
-      c .before .add-term .ensures .size ∙ l .loop .inv .1 .size ∙ l .before .before .before .add-inputs .ensures .size ∙ s .pre .2 .size,
+      c .before .add-term .ensures .size ∙ l .loop .inv .1 .size ∙ l .before .before .before .add-inputs .ensures .size ∙ s .pre .1 .size,
     )
 
 add-i : tie.Need-add-i Inv-loop μ-loop
@@ -79,7 +79,7 @@ returns : tie.Need-returns Inv-loop μ-loop
 returns c =
     let l = c .before in
     let s = l .before .before .before .before .before .before in
-    node-filled (s .args .words .now) (s .pre .0) (s .args .n) (s .pre .1) (s .pre .2) (l .before .before .before .add-inputs .ensures)
+    node-filled (s .args .words .now) (s .pre .0 .0) (s .args .n) (s .pre .0 .1) (s .pre .1) (l .before .before .before .add-inputs .ensures)
     (l .before .before .first-item .ensures) (l .before .item-count .ensures) (l .loop .inv .1) (c .loop-test .left) (l .loop .inv .0)
 
 pub add-node-spec : {M : Type 1} → statement M

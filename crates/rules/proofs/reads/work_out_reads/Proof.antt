@@ -20,7 +20,7 @@ loop-holds c = (omega arith, none-filled (c .before .before .args .words .now))
 
 add-node-requires : tie.Need-add-node-requires Inv-loop μ-loop
 add-node-requires c κs =
-    (c .before .before .before .before .before .pre, omega (arith, c .before .before .before .nodes .ensures), c .before .before .loop .inv .1)
+    ((c .before .before .before .before .before .pre, omega (arith, c .before .before .before .nodes .ensures)), c .before .before .loop .inv .1)
 
 add-n : tie.Need-add-n Inv-loop μ-loop
 add-n c = search needs

@@ -18,7 +18,7 @@ add-from c =
       fits = omega (
         arith,
         row-end (a .b .from) (a .i) (a .b .count) (a .b .width) (p .1),
-        either-small (a .b .table) _ (length (a .cells .now)) (a .to) (2 ^ 63) (p .0) (omega arith) (omega arith),
+        either-small (a .b .table) _ (length (a .cells .now)) (a .to) (2 ^ 63) (p .0 .0) (omega arith) (omega arith),
       );
     }
 
@@ -30,9 +30,9 @@ copy-cells-requires c κs =
       omega (
         arith,
         row-end (a .b .from) (a .i) (a .b .count) (a .b .width) (p .1),
-        first-holds (a .b .table) _ (length (a .cells .now)) (a .to) (p .0) (c .before .if1 .taken),
+        first-holds (a .b .table) _ (length (a .cells .now)) (a .to) (p .0 .0) (c .before .if1 .taken),
       ),
-      p .4,
+      p .2,
     )
 
 copy-within-requires : tie.Need-copy-within-requires
@@ -43,9 +43,9 @@ copy-within-requires c κs =
       omega (
         arith,
         row-end (a .b .from) (a .i) (a .b .count) (a .b .width) (p .1),
-        second-holds (a .b .table) _ (length (a .cells .now)) (a .to) (p .0) (c .before .if1 .left),
+        second-holds (a .b .table) _ (length (a .cells .now)) (a .to) (p .0 .0) (c .before .if1 .left),
       ),
-      p .4,
+      p .2,
     )
 
 same-length : tie.Need-same-length

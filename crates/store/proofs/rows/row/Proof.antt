@@ -17,7 +17,7 @@ add-from c =
       fits = omega (
         arith,
         row-end (a .b .from) (a .i) (a .b .count) (a .b .width) (p .1),
-        lists-small (a .b .table) (a .cells .now) (a .scratch .now) _ (2 ^ 63) (p .0) (omega arith) (omega arith),
+        lists-small (a .b .table) (a .cells .now) (a .scratch .now) _ (2 ^ 63) (p .0 .0) (omega arith) (omega arith),
       );
     }
 
@@ -30,7 +30,7 @@ add-part c =
       fits = omega (
         arith,
         row-end (a .b .from) (a .i) (a .b .count) (a .b .width) (p .1),
-        lists-small (a .b .table) (a .cells .now) (a .scratch .now) _ (2 ^ 63) (p .0) (omega arith) (omega arith),
+        lists-small (a .b .table) (a .cells .now) (a .scratch .now) _ (2 ^ 63) (p .0 .0) (omega arith) (omega arith),
       );
     }
 
@@ -38,7 +38,7 @@ part-requires : tie.Need-part-requires
 part-requires c κs =
     let a = c .before .before .before .args in
     let p = c .before .before .before .pre in
-    (omega arith, omega (arith, row-end (a .b .from) (a .i) (a .b .count) (a .b .width) (p .1), p .0))
+    (omega arith, omega (arith, row-end (a .b .from) (a .i) (a .b .count) (a .b .width) (p .1), p .0 .0))
 
 returns : tie.Need-returns
 returns c =

@@ -17,6 +17,7 @@ use Rattle.rules.proofs.finish.with_copy.Reads as with-copy-reads
 use Rattle.rules.proofs.finish.with_inner.Reads as with-inner-reads
 use Rattle.rules.proofs.finish.with_open.Reads as with-open-reads
 use Rattle.pages.proofs.page.last.Reads as last-reads
+use Rattle.pages.proofs.page.Head.join.Reads as join-reads
 use Rattle.pages.proofs.page.push_node.Reads as push-node-reads
 use Rattle.rules.proofs.put.reads_left.Reads as reads-left-reads
 use Rattle.rules.proofs.put.right_domain.Reads as right-domain-reads
@@ -35,6 +36,8 @@ abbrev pub put-calls : ℕ → put-lts.Claims
 put-calls t = (
   wide-reads.Asked,
   wide-reads.Learnt,
+  join-reads.Asked,
+  join-reads.Learnt,
   push-node-reads.Asked,
   push-node-reads.Learnt,
   left-reads.Asked,

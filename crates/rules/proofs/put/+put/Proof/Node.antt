@@ -5,9 +5,10 @@ use native.Mathlib.Omega.{arith}
 use lib.ListN.{getD}
 use borrow.Author.Needs.{needs}
 use Rattle.pages.proofs.Laws.Limits.{node-index}
+use Rattle.pages.proofs.Laws.Pages.{pushed-as}
 use Rattle.rules.proofs.Laws.Fuel.{not-scan}
-use Rattle.rules.proofs.Laws.Put.{both-put, closed-put, copy-put, left-over, one-put, set-over, set-put}
-use Rattle.rules.proofs.Laws.Put.{inner-sound, is-closed, reads-none}
+use Rattle.rules.proofs.Laws.UnderDomain.{both-put, closed-put, copy-put, left-over, one-put, set-over, set-put}
+use Rattle.rules.proofs.Laws.UnderDomain.{inner-sound, is-closed, reads-none}
 use Rattle.rules.proofs.put.put.Reads as put
 use Rattle.rules.proofs.put.+put.Lts-put as put-lts
 use Rattle.rules.proofs.put.+put.Proof.Falling.{put-at, put-calls}
@@ -29,24 +30,27 @@ module _ (t : ℕ) where
   pub put-wide-requires-2 : put-lts.Need-wide-requires-2 (put-calls t) (put-at t) put.Post
   put-wide-requires-2 c κs = search needs
 
-  pub put-mul-t31 : put-lts.Need-mul-t31 (put-calls t) (put-at t) put.Post
-  put-mul-t31 c = search needs
+  pub put-mul-join : put-lts.Need-mul-join (put-calls t) (put-at t) put.Post
+  put-mul-join c = search needs
 
-  pub put-element-copy-out-t34 : put-lts.Need-element-copy-out-t34 (put-calls t) (put-at t) put.Post
-  put-element-copy-out-t34 c =
+  pub put-element-copy-out-join : put-lts.Need-element-copy-out-join (put-calls t) (put-at t) put.Post
+  put-element-copy-out-join c =
       let s = c .before .before .before .before .before .before .before in
       node-index (accepted s) (there s) (c .wide2 .ensures)
+
+  pub put-join-requires : put-lts.Need-join-requires (put-calls t) (put-at t) put.Post
+  put-join-requires c κs = search needs
 
   pub put-push-node-requires : put-lts.Need-push-node-requires (put-calls t) (put-at t) put.Post
   put-push-node-requires c κs = search needs
 
   pub put-returns : put-lts.Need-returns (put-calls t) (put-at t) put.Post
   put-returns c =
-      let taken = c .before .before .before .before .before in
+      let taken = c .before .before .before .before .before .before in
       let asked-wide = taken .before .before in
       let s = asked-wide .before .before in
-      closed-put (accepted s) (there s) (is-closed (ws s) (s .args .reaches .now) (s .pre .1 .3) (there s) (asked-wide .wide .ensures) (taken .if1 .taken))
-      (c .before .before .wide2 .ensures) (c .push-node .ensures)
+      closed-put (accepted s) (there s) (is-closed (ws s) (s .args .reaches .now) (s .pre .1 .1 .0) (there s) (asked-wide .wide .ensures) (taken .if1 .taken))
+      (c .before .before .before .wide2 .ensures) (pushed-as (c .before .join .ensures) (c .push-node .ensures))
 
   pub put-left-requires : put-lts.Need-left-requires (put-calls t) (put-at t) put.Post
   put-left-requires c κs = search needs
@@ -57,7 +61,7 @@ module _ (t : ℕ) where
       let s = start (l .before) in
       let less = left-below (l .before) in (
         omega (arith, less, s .pre .0, l .left .ensures),
-        (accepted s, omega (arith, less, l .left .ensures), sound s, s .pre .1 .3, s .pre .1 .4, s .pre .1 .5),
+        ((accepted s, omega (arith, less, l .left .ensures), sound s), s .pre .1 .1),
       )
 
   pub put-returns-2 : put-lts.Need-returns-2 (put-calls t) (put-at t) put.Post
@@ -80,7 +84,7 @@ module _ (t : ℕ) where
       let one = c .before .before .before in
       let o = known (one .before) in
       let s = start o in
-      (accepted s, there s, not-scan (ws s) (accepted s .formed) (λ i. 0) (s .args .n) (there s) (opened o), single one, sound s)
+      ((accepted s, there s, sound s), (not-scan (ws s) (accepted s .formed) (λ i. 0) (s .args .n) (there s) (opened o), single one))
 
   pub put-returns-3 : put-lts.Need-returns-3 (put-calls t) (put-at t) put.Post
   put-returns-3 c =
@@ -97,25 +101,25 @@ module _ (t : ℕ) where
   pub put-wide-requires-3 : put-lts.Need-wide-requires-3 (put-calls t) (put-at t) put.Post
   put-wide-requires-3 c κs = search needs
 
-  pub put-mul-wl : put-lts.Need-mul-wl (put-calls t) (put-at t) put.Post
-  put-mul-wl c = search needs
+  pub put-mul-left-width : put-lts.Need-mul-left-width (put-calls t) (put-at t) put.Post
+  put-mul-left-width c = search needs
 
-  pub put-element-copy-out-wl : put-lts.Need-element-copy-out-wl (put-calls t) (put-at t) put.Post
-  put-element-copy-out-wl c =
+  pub put-element-copy-out-left-width : put-lts.Need-element-copy-out-left-width (put-calls t) (put-at t) put.Post
+  put-element-copy-out-left-width c =
       let o = over (c .before) in
       node-index (accepted (start o)) (left-there o) (c .wide3 .ensures ∙ lefts (placed (asked (c .before))) .left .ensures)
 
   pub put-wide-requires-4 : put-lts.Need-wide-requires-4 (put-calls t) (put-at t) put.Post
   put-wide-requires-4 c κs = search needs
 
-  pub put-mul-wr : put-lts.Need-mul-wr (put-calls t) (put-at t) put.Post
-  put-mul-wr c = search needs
+  pub put-mul-right-width : put-lts.Need-mul-right-width (put-calls t) (put-at t) put.Post
+  put-mul-right-width c = search needs
 
-  pub put-element-copy-out-wr : put-lts.Need-element-copy-out-wr (put-calls t) (put-at t) put.Post
-  put-element-copy-out-wr c = right-index (c .before .before .before) (c .wide4 .ensures)
+  pub put-element-copy-out-right-width : put-lts.Need-element-copy-out-right-width (put-calls t) (put-at t) put.Post
+  put-element-copy-out-right-width c = right-index (c .before .before .before) (c .wide4 .ensures)
 
   pub put-reads-left-requires : put-lts.Need-reads-left-requires (put-calls t) (put-at t) put.Post
-  put-reads-left-requires c κs = let s = start (over (c .before .before .before .before)) in (accepted s, there s, s .pre .1 .5)
+  put-reads-left-requires c κs = let s = start (over (c .before .before .before .before)) in ((accepted s, there s), s .pre .1 .1 .2)
 
   pub put-key-set-requires : put-lts.Need-key-set-requires (put-calls t) (put-at t) put.Post
   put-key-set-requires c κs = (right-index (sides (c .before)) refl, sound (first (c .before)))
@@ -132,7 +136,7 @@ module _ (t : ℕ) where
       let s = first q in
       set-over (accepted s) (there s) (opened (known a)) (lefts (placed a) .left .ensures) (placed a .put .ensures)
       (within a .if2 .left) (last a .last .ensures)
-      (eight d) (reads-row d) (sides q .right .ensures) (s .args .reads .now) (s .pre .1 .5) (keyed g .key-set .result)
+      (eight d) (reads-row d) (sides q .right .ensures) (s .args .reads .now) (s .pre .1 .1 .2) (keyed g .key-set .result)
       (keyed g .key-set .ensures) (g .domain-node .ensures) (c .if5 .taken)
 
   pub put-last-requires-2 : put-lts.Need-last-requires-2 (put-calls t) (put-at t) put.Post
@@ -149,7 +153,7 @@ module _ (t : ℕ) where
       let s = start (over p) in
       let less = right-below p in (
         omega (arith, less, s .pre .0, p .right .ensures),
-        (accepted s, omega (arith, less, p .right .ensures), inner-sound (n .inner .ensures) (k .key-set .ok), s .pre .1 .3, s .pre .1 .4, s .pre .1 .5),
+        ((accepted s, omega (arith, less, p .right .ensures), inner-sound (n .inner .ensures) (k .key-set .ok)), s .pre .1 .1),
       )
 
   pub put-last-requires-3 : put-lts.Need-last-requires-3 (put-calls t) (put-at t) put.Post
@@ -159,7 +163,7 @@ module _ (t : ℕ) where
   put-with-inner-requires c κs =
       let d = keyed (fits (c .before .before .before .before) .before .before) .before in
       let s = first (d .before) in
-      (accepted s, there s, eight d, sound s, left-narrow (d .before), right-narrow (d .before))
+      ((accepted s, there s, sound s), eight d, (left-narrow (d .before), right-narrow (d .before)))
 
   pub put-returns-5 : put-lts.Need-returns-5 (put-calls t) (put-at t) put.Post
   put-returns-5 c =
@@ -172,7 +176,7 @@ module _ (t : ℕ) where
       let s = first q in
       set-put (accepted s) (there s) (opened (known a)) (lefts (placed a) .left .ensures) (placed a .put .ensures)
       (within a .if2 .left) (last a .last .ensures)
-      (eight d) (reads-row d) (sides q .right .ensures) (s .args .reads .now) (s .pre .1 .5) (keyed g .key-set .result)
+      (eight d) (reads-row d) (sides q .right .ensures) (s .args .reads .now) (s .pre .1 .1 .2) (keyed g .key-set .result)
       (keyed g .key-set .ensures) (g .domain-node .ensures) (f .if5 .left)
       (new p .before .last2 .ensures) (new p .inner .ensures) (keyed g .key-set .ok) (left-width q) (right-width q)
       (p .put2 .ensures) (c .before .before .before .before .last3 .ensures) (c .with-inner .ensures)
@@ -199,7 +203,7 @@ module _ (t : ℕ) where
   put-with-copy-requires c κs =
       let q = measured (c .before .before .before .before .before .before) in
       let s = first q in
-      (accepted s, there s, paired (sides q), sound s)
+      ((accepted s, there s, sound s), paired (sides q))
 
   pub put-returns-6 : put-lts.Need-returns-6 (put-calls t) (put-at t) put.Post
   put-returns-6 c =
@@ -222,7 +226,7 @@ module _ (t : ℕ) where
       let s = start (over p) in
       let less = right-below p in (
         omega (arith, less, s .pre .0, p .right .ensures),
-        (accepted s, omega (arith, less, p .right .ensures), r .right-domain .ensures .0, s .pre .1 .3, s .pre .1 .4, s .pre .1 .5),
+        ((accepted s, omega (arith, less, p .right .ensures), r .right-domain .ensures .0), s .pre .1 .1),
       )
 
   pub put-last-requires-4 : put-lts.Need-last-requires-4 (put-calls t) (put-at t) put.Post
@@ -232,7 +236,7 @@ module _ (t : ℕ) where
   put-with-open-requires c κs =
       let q = measured (under (c .before .before .before .before) .before .before) in
       let s = first q in
-      (accepted s, there s, paired (sides q), sound s, left-narrow q, right-narrow q)
+      ((accepted s, there s, sound s), paired (sides q), (left-narrow q, right-narrow q))
 
   pub put-returns-7 : put-lts.Need-returns-7 (put-calls t) (put-at t) put.Post
   put-returns-7 c =

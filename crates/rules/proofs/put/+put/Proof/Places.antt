@@ -12,8 +12,8 @@ use Rattle.plan.specs.Verdict.{hasRight, widthAt}
 use Rattle.plan.specs.Promise.{Accepted}
 use Rattle.pages.specs.Domains.{Sound}
 use Rattle.pages.proofs.Laws.Limits.{node-index}
-use Rattle.rules.proofs.Laws.Put.{is-closed, is-open, left-less, no-right, one-right, right-less, width-is}
-use Rattle.rules.proofs.Laws.Put.{reads-eight, reads-some}
+use Rattle.rules.proofs.Laws.UnderDomain.{is-closed, is-open, left-less, no-right, one-right, right-less, width-is}
+use Rattle.rules.proofs.Laws.UnderDomain.{reads-eight, reads-some}
 use Rattle.rules.proofs.put.put.Reads as put
 use Rattle.rules.proofs.put.+put.Lts-put as put-lts
 use Rattle.rules.proofs.put.+put.Proof.Falling.{put-at, put-calls}
@@ -77,13 +77,13 @@ module _ {t : ℕ} where
   shape s i = shapeAt (widthsOf (ws s)) (nodesOf (ws s)) i
 
   pub accepted : (s : Start t) → Accepted (ws s)
-  accepted s = s .pre .1 .0
+  accepted s = s .pre .1 .0 .0
 
   pub there : (s : Start t) → s .args .n < nodes (ws s)
-  there s = s .pre .1 .1
+  there s = s .pre .1 .0 .1
 
   pub sound : (s : Start t) → Sound (s .args .d)
-  sound s = s .pre .1 .2
+  sound s = s .pre .1 .0 .2
 
   -- ---- the node is open
 
@@ -93,7 +93,7 @@ module _ {t : ℕ} where
   pub opened : (c : Opened t) → closed (shape (start c) (start c .args .n)) ≡ false
   opened c =
       let s = start c in
-      is-open (ws s) (s .args .reaches .now) (s .pre .1 .3) (there s) (c .before .before .wide .ensures) (c .if1 .left)
+      is-open (ws s) (s .args .reaches .now) (s .pre .1 .1 .0) (there s) (c .before .before .wide .ensures) (c .if1 .left)
 
   pub left-below : (c : Opened t) → left-of (start c) < start c .args .n
   left-below c = left-less (accepted (start c)) (there (start c)) (opened c)
@@ -160,13 +160,13 @@ module _ {t : ℕ} where
   pub left-width : (c : Measured t)
       → getD (first c .args .widths .now) (left-wide c .wide3 .result) 0 ≡ widthAt (ws (first c)) (left-of (first c))
   left-width c =
-      width-is (accepted (first c)) (left-there (over (sides c))) (first c .args .widths .now) (first c .pre .1 .4)
+      width-is (accepted (first c)) (left-there (over (sides c))) (first c .args .widths .now) (first c .pre .1 .1 .1)
       (lefts (placed (asked (sides c))) .left .ensures) (left-wide c .wide3 .ensures)
 
   pub right-width : (c : Measured t)
       → getD (first c .args .widths .now) (right-wide c .wide4 .result) 0 ≡ widthAt (ws (first c)) (right-of (first c))
   right-width c =
-      width-is (accepted (first c)) (right-there (sides c)) (first c .args .widths .now) (first c .pre .1 .4)
+      width-is (accepted (first c)) (right-there (sides c)) (first c .args .widths .now) (first c .pre .1 .1 .1)
       (sides c .right .ensures) (right-wide c .wide4 .ensures)
 
   pub left-narrow : (c : Measured t) → getD (first c .args .widths .now) (left-wide c .wide3 .result) 0 ≤ 64
@@ -207,13 +207,13 @@ module _ {t : ℕ} where
       → closed (shape (beside (c .before)) (right-of (beside (c .before)))) ≡ true
   right-closed c =
       let s = beside (c .before) in
-      is-closed (ws s) (s .args .reaches .now) (s .pre .1 .3) (right-there (sides (measured (c .before)))) (right-is (c .before)) (c .if6 .taken)
+      is-closed (ws s) (s .args .reaches .now) (s .pre .1 .1 .0) (right-there (sides (measured (c .before)))) (right-is (c .before)) (c .if6 .taken)
 
   pub right-opened : (c : put-lts.Else6 (put-calls t) (put-at t) put.Post)
       → closed (shape (beside (c .before)) (right-of (beside (c .before)))) ≡ false
   right-opened c =
       let s = beside (c .before) in
-      is-open (ws s) (s .args .reaches .now) (s .pre .1 .3) (right-there (sides (measured (c .before)))) (right-is (c .before)) (c .if6 .left)
+      is-open (ws s) (s .args .reaches .now) (s .pre .1 .1 .0) (right-there (sides (measured (c .before)))) (right-is (c .before)) (c .if6 .left)
 
   -- the right side, which is open, is put
   abbrev pub under : put-lts.After-put3 (put-calls t) (put-at t) put.Post → put-lts.After-right-domain (put-calls t) (put-at t) put.Post
