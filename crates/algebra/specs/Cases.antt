@@ -6,7 +6,7 @@ use Prim.Native.Nat.{ℕ}
 use lib.IntN.{pos, negsuc}
 use Rattle.algebra.specs.Lists.{keep, any}
 use Rattle.algebra.specs.Value.{Value, null, num, Row, sameRow, Test, equal, less, same}
-use Rattle.algebra.specs.Plan.{Term, column, outer, constant, Conjunct, count, minimum, inner, semi, anti, left-outer, Node, scan, select, compute, project, join, group, groupjoin, dependent}
+use Rattle.algebra.specs.Plan.{Term, column, outer, constant, nothing, Conjunct, count, minimum, inner, semi, anti, left-outer, Node, scan, select, compute, project, join, group, groupjoin, dependent}
 use Rattle.algebra.specs.Meaning.{Database, answer}
 use Rattle.algebra.specs.Rewriting.{rewritten}
 
@@ -55,7 +55,7 @@ onEqual node left right rows = record {
   rows = rows;
 }
 
--- ---- P1 to P10
+-- ---- P1 to P10, and a null term
 
 abbrev pub smallCases : List Case
 smallCases =
@@ -81,6 +81,9 @@ smallCases =
     ∷ onEqual (λ cs. join anti cs 0 1) (n 1 ∷ null ∷ []) (n 1 ∷ []) ((null ∷ []) ∷ [])
     -- "P10 outer, left 1,2, right 2: (1,null),(2,2)."
     ∷ onEqual (λ cs. join left-outer cs 0 1) (n 1 ∷ n 2 ∷ []) (n 2 ∷ []) ((n 1 ∷ null ∷ []) ∷ (n 2 ∷ n 2 ∷ []) ∷ [])
+    -- a null term: "not distinct" finds nulls, = finds nothing
+    ∷ over (n 1 ∷ null ∷ []) (select (when same (column 0) nothing ∷ []) 0) ((null ∷ []) ∷ [])
+    ∷ over (n 1 ∷ null ∷ []) (select (when equal (column 0) nothing ∷ []) 0) []
     ∷ []
 
 -- ---- two plans over drives, bays and scrubs (drive, bay)

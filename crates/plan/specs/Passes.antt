@@ -2,14 +2,18 @@
 use mathlib.Core.Path.{_≡_}
 use mathlib.Core.Bool.{Bool, true, cond, _&&_}
 use mathlib.Core.List.{List, [], _∷_}
-use Prim.Native.Nat.{ℕ, suc, _<_, max, pred}
+use Prim.Native.Nat.{ℕ, suc, _<_, _≤_, max, pred}
 use lib.Dec.{ltb, eqb}
-use lib.ListN.{getD}
+use lib.ListN.{length, getD}
 use Rattle.algebra.specs.Columns.{Column, shapeAt}
 use Rattle.plan.specs.Words.{Three, Item, nodes, operator, left, right, itemsOf}
 use Rattle.plan.specs.Items.{between, positionOf, termOf}
 use Rattle.plan.specs.Plan.{widthsOf, nodesOf}
 use Rattle.plan.specs.Verdict.{lowest, usesOf, widthAt, isTooWide, scopeOf, termThere, hasRight}
+
+-- a word for each of 256 nodes, 0 from node n on
+abbrev pub ZeroFrom : ℕ → List ℕ → Type 0
+ZeroFrom n table = (length table ≡ 256) × ((m : ℕ) → n ≤ m → getD table m 0 ≡ 0)
 
 -- ---- uses
 
@@ -23,6 +27,7 @@ Counted ws table = (m : ℕ) → m < 256 → getD table m 0 ≡ usesOf ws m
 pub record Measured (ws rows : List ℕ) (narrow : ℕ) : Type 0 where
   pub first : narrow ≡ lowest (isTooWide ws) (nodes ws)
   pub each : (m : ℕ) → m < narrow → getD rows m 0 ≡ widthAt ws m
+  pub rest : ZeroFrom narrow rows
 
 -- the widths of all nodes
 abbrev pub Widths : List ℕ → List ℕ → Type 0

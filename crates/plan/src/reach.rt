@@ -15,7 +15,7 @@ ghost use Prim.Native.Nat.{ℕ, _+_, _≤_, _<_, max};
 ghost use lib.ListN.{getD};
 ghost use Rattle.plan.specs.Words as spec;
 ghost use Rattle.plan.specs.Promise.{Formed};
-ghost use Rattle.plan.specs.Passes.{Reaches, termReach, itemsReach, nodeReach};
+ghost use Rattle.plan.specs.Passes.{ZeroFrom, Reaches, termReach, itemsReach, nodeReach};
 
 fn larger(a: u32, b: u32) -> u32
     ensures { λ r. ⌜ r ≡ max a b ⌝ }
@@ -78,6 +78,7 @@ fn node_reach(words: &[u32], n: u32, reaches: &PerNode) -> u32
 pub fn work_out_reaches(words: &[u32]) -> PerNode
     requires { ⌜ Formed (now words) ⌝ }
     ensures { λ r. ⌜ Reaches (now (words .entry)) r ⌝ }
+    ensures { λ r. ⌜ ZeroFrom (spec.nodes (now (words .entry))) r ⌝ }
 {
     let mut reaches = [0u32; Plan::NODES as usize];
     let count = nodes(words);

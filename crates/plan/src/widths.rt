@@ -27,13 +27,12 @@ pub struct Widths {
 }
 
 // The row of a join of a kind.
-pub fn join_width(k: u32, l: u32, r: u32) -> u32
-    requires { ⌜ (l ≤ 64) × (r ≤ 64) ⌝ }
+pub fn join_width(k: u32, l: u32, r: u32) -> usize
     ensures { λ w. ⌜ w ≡ joinWidth (kindOf k) l r ⌝ }
 {
     match k {
-        2 | 3 => l,
-        _ => l + r,
+        2 | 3 => wide(l),
+        _ => wide(l) + wide(r),
     }
 }
 
@@ -64,7 +63,7 @@ fn node_width(words: &[u32], n: u32, rows: &PerNode) -> u32
     if o == 7 {
         return w + count_tagged(words, first_item(words, n), count, 13, 16);
     }
-    join_width(kind(words, n), w, rows[wide(right(words, n))])
+    join_width(kind(words, n), w, rows[wide(right(words, n))]) as u32
 }
 
 pub fn work_out_widths(words: &[u32]) -> Widths

@@ -1,6 +1,5 @@
 pub mod Beneath
 pub mod BoundRows
-pub mod Causes
 pub mod ClosedNodes
 pub mod Frames
 pub mod Inputs

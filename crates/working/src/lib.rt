@@ -1,2 +1,2 @@
-pub mod operate; // a node's rows from its inputs'
+mod operate; // a node's rows from its inputs'
 pub mod nodes; // nodes in order, and the walk over bindings

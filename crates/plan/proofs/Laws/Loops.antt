@@ -173,6 +173,10 @@ table-more table n meant {i} {v} before l q e m h = rw q (go (ltb m n) refl)
     go true t = let less : m < n = ltb-true m n t in getD-set-other table n m v 0 (omega arith) ∙ before m less
     go false t = let same : m ≡ n = omega (arith, ltb-false m n t) in rw same (getD-set-same table n v 0 l ∙ e)
 
+-- past it nothing has changed
+pub zeros-more : (table : List ℕ) (n v : ℕ) {i : ℕ} → ((m : ℕ) → n ≤ m → getD table m 0 ≡ 0) → i ≡ n → (m : ℕ) → n + 1 ≤ m → getD (set table i v) m 0 ≡ 0
+zeros-more table n v {i} rest q m h = rw q (getD-set-other table n m v 0 (omega arith) ∙ rest m (omega arith))
+
 -- a table that starts with zeros
 pub zeros-at : (n i : ℕ) → _≡_ {A = ℕ} (getD (replicate n 0) i 0) 0
 zeros-at zero i = refl

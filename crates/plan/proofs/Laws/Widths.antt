@@ -7,7 +7,7 @@ use native.Mathlib.Omega.{arith}
 use lib.ListN.{length, getD, length-map}
 use borrow.Author.Tests.{ltb-false, lt-ltb, le-ltb}
 use Rattle.algebra.specs.Lists.{keep, upto, isEmpty, Every, done, more}
-use Rattle.algebra.specs.Plan.{widthOf, joinWidth}
+use Rattle.algebra.specs.Plan.{Kind, inner, semi, anti, left-outer, widthOf, joinWidth}
 use Rattle.algebra.specs.Columns.{Shape, shapeAt}
 use Rattle.algebra.proofs.Lists.Same.{and-left, and-right}
 use Rattle.algebra.proofs.Lists.Every.{every-map}
@@ -17,7 +17,7 @@ use Rattle.plan.specs.Items.{isKey, isAggregate, positionOf, keysIn, agg
 use Rattle.plan.specs.Plan.{nodeFor, nodeAt, kindOf, widthsOf, nodesOf}
 use Rattle.plan.specs.Verdict.{hasRight, itemsRight, widthAt, isTooWide}
 use Rattle.plan.specs.Promise.{Formed}
-use Rattle.plan.specs.Passes.{Measured}
+use Rattle.plan.specs.Passes.{ZeroFrom, Measured}
 use Rattle.plan.proofs.Laws.Loops.{lowest-none, lowest-not, lowest-found, lowest-end, none-more}
 use Rattle.plan.proofs.Laws.Numbered.{numbered-at}
 use Rattle.plan.proofs.Laws.Items.{items-length}
@@ -26,6 +26,12 @@ use Rattle.plan.proofs.Laws.Reach.{front-every}
 use Rattle.plan.proofs.Laws.Restored.{key-not-aggregate, aggregate-not-key}
 
 -- ---- a join
+
+pub join-narrow : (k : Kind) (l r : ℕ) → l ≤ 64 → r ≤ 64 → joinWidth k l r ≤ 128
+join-narrow inner l r h g = omega arith
+join-narrow semi l r h g = omega arith
+join-narrow anti l r h g = omega arith
+join-narrow left-outer l r h g = omega arith
 
 -- semi and anti rows are left's
 pub half-width : (k : ℕ) → 2 ≤ k → k ≤ 3 → (l r : ℕ) → l ≡ joinWidth (kindOf k) l r
@@ -169,10 +175,11 @@ module _ (ws rows : List ℕ) (n : ℕ) (before : (m : ℕ) → m < n → getD r
   rows-low m l = omega (arith, before m l, ltb-false 64 (widthAt ws m) (lowest-not (isTooWide ws) n (omega (arith, lowest-none (isTooWide ws) n narrow)) m l))
 
   -- all nodes are measured
-  pub measured-all : {c : ℕ} → c ≡ nodes ws → c ≤ n → n ≤ c → Measured ws rows c
-  measured-all e g h = record {
+  pub measured-all : {c : ℕ} → ZeroFrom n rows → c ≡ nodes ws → c ≤ n → n ≤ c → Measured ws rows c
+  measured-all rest e g h = record {
     first = e ∙ lowest-end (isTooWide ws) n (nodes ws) narrow (omega arith) (omega arith);
     each = λ m l. before m (omega arith);
+    rest = (rest .0, λ m l. rest .1 m (omega arith));
   }
 
   module _ (f : Formed ws) (h : n < nodes ws) {w : ℕ} (e : w ≡ widthOf (widthsOf ws) (λ i. getD rows i 0) (nodeAt ws n)) where
@@ -181,10 +188,11 @@ module _ (ws rows : List ℕ) (n : ℕ) (before : (m : ℕ) → m < n → getD r
     width-is = e ∙ width-from ws f n h (λ i. getD rows i 0) before
 
     -- the first that is too wide
-    pub measured-wide : 64 < w → Measured ws rows n
-    measured-wide g = record {
+    pub measured-wide : ZeroFrom n rows → 64 < w → Measured ws rows n
+    measured-wide rest g = record {
       first = lowest-found (isTooWide ws) n (nodes ws) narrow (lt-ltb 64 (widthAt ws n) (omega (arith, width-is))) h;
       each = before;
+      rest = rest;
     }
 
     -- one more that is not too wide

@@ -128,7 +128,7 @@ work-out-reaches-requires c κs = is-formed (formed-at (used-at (c .before)))
 first-open-twice-requires : tie.Need-first-open-twice-requires
 first-open-twice-requires c κs =
     let u = used-at (c .before .before .before .before) in
-    (is-sized (counted (formed-at u)), u .before .before .before .count-uses .ensures, c .before .before .work-out-reaches .ensures)
+    (is-sized (counted (formed-at u)), u .before .before .before .count-uses .ensures, c .before .before .work-out-reaches .ensures .0)
 
 returns-6 : tie.Need-returns-6
 returns-6 c =
@@ -139,7 +139,7 @@ returns-6 c =
 work-out-joins-requires : tie.Need-work-out-joins-requires
 work-out-joins-requires c κs =
     let o = c .before in
-    (is-formed (formed-at (used-at (narrow-at o))), o .before .before .before .before .work-out-reaches .ensures)
+    (is-formed (formed-at (used-at (narrow-at o))), o .before .before .before .before .work-out-reaches .ensures .0)
 
 first-missing-requires : tie.Need-first-missing-requires
 first-missing-requires c κs =

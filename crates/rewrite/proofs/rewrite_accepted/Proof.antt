@@ -21,7 +21,7 @@ rewrite-nodes-requires c κs =
     let r = c .before .before .before .before .before in
     let w = r .before .before .before in
     let a = promise _ (w .before .before .before .pre) in
-    (a, (r .before .work-out-reaches .ensures, widths-all _ _ (w .work-out-widths .result .narrow) a (w .work-out-widths .ensures), r .work-out-reads .ensures))
+    (a, (r .before .work-out-reaches .ensures .0, widths-all _ _ (w .work-out-widths .result .narrow) a (w .work-out-widths .ensures), r .work-out-reads .ensures))
 
 returns : tie.Need-returns
 returns c =

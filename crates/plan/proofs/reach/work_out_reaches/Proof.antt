@@ -7,7 +7,7 @@ use Rattle.algebra.specs.Columns.{shapeAt}
 use Rattle.plan.specs.Plan.{widthsOf, nodesOf}
 use Rattle.plan.specs.Passes.{reach}
 use Rattle.plan.proofs.Laws.Formed.{limited}
-use Rattle.plan.proofs.Laws.Loops.{table-more}
+use Rattle.plan.proofs.Laws.Loops.{table-more, zeros-more, zeros-at}
 use Rattle.plan.proofs.Laws.Reach.{reach-of}
 use Rattle.plan.proofs.reach.work_out_reaches.Statement.{statement}
 use Rattle.plan.proofs.reach.work_out_reaches.Tie as tie
@@ -15,6 +15,7 @@ use Rattle.plan.proofs.reach.work_out_reaches.Tie as tie
 abbrev Inv-loop : tie.InvT-loop
 Inv-loop words reaches₀ count n₀ reaches n =
     (length reaches ≡ 256) × (n ≤ count) × ((m : ℕ) → m < n → getD reaches m 0 ≡ reach (shapeAt (widthsOf words) (nodesOf words) m .reads))
+    × ((m : ℕ) → n ≤ m → getD reaches m 0 ≡ 0)
 
 abbrev μ-loop : tie.MeasureT-loop
 μ-loop words reaches₀ count n₀ reaches n = count - n
@@ -23,7 +24,7 @@ nodes-requires : tie.Need-nodes-requires Inv-loop μ-loop
 nodes-requires c κs = search needs
 
 loop-holds : tie.Need-loop-holds Inv-loop μ-loop
-loop-holds c = search needs
+loop-holds c = (search needs, search needs, (λ m l. absurd (omega arith)), λ m l. zeros-at 256 m)
 
 node-reach-requires : tie.Need-node-reach-requires Inv-loop μ-loop
 node-reach-requires c κs = search needs
@@ -54,10 +55,12 @@ loop-again c =
       omega arith,
       table-more (l .reaches) (l .n) (λ m. reach (shapeAt (widthsOf ws) (nodesOf ws) m .reads)) (l .inv .2)
           (omega (arith, limited _ (s .pre .sized) .nodes-few)) (c .wide .ensures) one,
+      zeros-more (l .reaches) (l .n) _ (l .inv .3) (c .wide .ensures),
     )
 
 returns : tie.Need-returns Inv-loop μ-loop
-returns c = λ m h. c .before .loop .inv .2 m (omega arith)
+returns c =
+    let l = c .before .loop in ((λ m h. l .inv .2 m (omega arith)), (l .inv .0, λ m h. l .inv .3 m (omega arith)))
 
 pub work-out-reaches-spec : {M : Type 1} → statement M
 work-out-reaches-spec =

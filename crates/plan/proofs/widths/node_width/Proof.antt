@@ -2,11 +2,12 @@ use Prim.Native.Nat.{_≤_, _<_}
 use native.Mathlib.Omega.{arith}
 use lib.ListN.{getD}
 use borrow.Author.Needs.{needs}
+use Rattle.plan.specs.Plan.{kindOf}
 use Rattle.plan.proofs.Laws.Formed.{limited, left-below, right-below}
 use Rattle.plan.proofs.Laws.Items.{tags-most}
 use Rattle.plan.proofs.Laws.Reach.{items-asked}
 use Rattle.plan.proofs.Laws.Widths.{IsJoin, scan-width, project-width, group-width, select-width, compute-width}
-use Rattle.plan.proofs.Laws.Widths.{groupjoin-width, join-width, join-right}
+use Rattle.plan.proofs.Laws.Widths.{groupjoin-width, join-width, join-narrow, join-right}
 use Rattle.plan.proofs.widths.node_width.Statement.{statement}
 use Rattle.plan.proofs.widths.node_width.Tie as tie
 
@@ -149,9 +150,13 @@ element-copy-out-join-width c =
     let s = start (operated (entered (joined c .before))) in omega (arith, right-before c, limited _ (s .pre .0 .sized) .nodes-few)
 
 join-width-requires : tie.Need-join-width-requires
-join-width-requires c κs =
-    let w = entered (joined (c .before) .before) in
-    (left-narrow w, start (operated w) .pre .2 _ (right-before (c .before)))
+join-width-requires c κs = search needs
+
+cast-result : tie.Need-cast-result
+cast-result c =
+    let r = c .before .before in
+    let w = entered (joined r .before) in
+    omega (arith, c .join-width .ensures, join-narrow (kindOf (r .before .before .kind .result)) _ _ (left-narrow w) (start (operated w) .pre .2 _ (right-before r)))
 
 returns-7 : tie.Need-returns-7
 returns-7 c =
@@ -188,4 +193,5 @@ node-width-spec =
     mul-join-width
     element-copy-out-join-width
     join-width-requires
+    cast-result
     returns-7)
