@@ -4,6 +4,7 @@ use mathlib.Core.Bool.{true, cond}
 use mathlib.Core.List.{List, [], _∷_, _++_}
 use Prim.Native.Nat.{ℕ, _+_, _<_}
 use lib.Dec.{eqb}
+use Rattle.algebra.specs.Plan.{Term, column, outer, constant, nothing}
 use Rattle.algebra.specs.Domains.{Domain, moveTerm}
 use Rattle.plan.specs.Words.{Three, Item}
 use Rattle.plan.specs.Items.{positionOf, termOf, termRight}
@@ -25,6 +26,13 @@ movedWords D f x = x .tag ∷ (termWords (moveTerm D f (termOf (x .first))) ++ c
 -- a column of a checked plan has a small position
 abbrev pub Small : Three → Type 0
 Small t = t .code < 2 → t .value < 1000
+
+-- a term as the rewriter needs it: a level that a domain has, a small position
+abbrev pub Near : Term → Type 0
+Near (column p) = p < 1000
+Near (outer l p) = (l < 8) × (p < 1000)
+Near (constant z) = Unit {0}
+Near nothing = Unit {0}
 
 -- both terms are well formed and small, the second where it is used
 pub record Movable (x : Item) : Type 0 where

@@ -1,5 +1,8 @@
 // A domain: its node, its width, and for each level around a set and the width in front of it, over 64 where the level is not read.
+use crate::sets::ALL;
+use crate::sets::BITS;
 use crate::sets::rank;
+use plan::Plan;
 use plan::words::wide;
 ghost use mathlib.Core.Path.{_≡_};
 ghost use Prim.Native.Nat.{_<_};
@@ -7,6 +10,9 @@ ghost use Rattle.algebra.specs.Domains as algebra;
 ghost use Rattle.pages.specs.Sets as sets;
 ghost use Rattle.pages.specs.Domains as spec;
 ghost use Rattle.pages.specs.Domains.{placeIn, Means, Inner};
+
+// The width in front of a level that is not read: no row is so wide.
+const UNREAD: u32 = Plan::WIDTH + 1;
 
 pub struct Domain {
     pub node: u32,
@@ -32,7 +38,7 @@ fn start(base: u32, position: u32) -> u32
     requires { ⌜ position < 1000 ⌝ }
     ensures { λ r. ⌜ r ≡ spec.start base position ⌝ }
 {
-    if base <= 64 {
+    if base <= Plan::WIDTH {
         return base + position;
     }
     0
@@ -91,12 +97,12 @@ fn deeper(d: Domain, node: u32, width: u32, set: u64, base: u32) -> Domain
 pub fn inner(d: Domain, node: u32, set: u64) -> Domain
     ensures { λ r. ⌜ Inner d r node (sets.rank set 64) set (d .width) ⌝ }
 {
-    deeper(d, node, rank(set, 64), set, d.width)
+    deeper(d, node, rank(set, BITS), set, d.width)
 }
 
 // The same domain inside a dependent join whose left row is not read.
 pub fn inside(d: Domain) -> Domain
     ensures { λ r. ⌜ ((D : algebra.Domain) → Means d D → Means r (algebra.inside D)) ⌝ }
 {
-    deeper(d, d.node, d.width, 18446744073709551615, 65)
+    deeper(d, d.node, d.width, ALL, UNREAD)
 }

@@ -5,7 +5,11 @@ use crate::page::Cursor;
 use crate::page::ItemWords;
 use crate::page::Three;
 use crate::page::push_item;
+use crate::sets::BITS;
 use crate::sets::has;
+use plan::terms::Term;
+use plan::terms::first_term;
+use plan::terms::second_term;
 use plan::words::item_word;
 use plan::words::position;
 use plan::words::tag;
@@ -16,12 +20,12 @@ ghost use Prim.Native.Nat.{ℕ, _+_, _≤_, _<_};
 ghost use Rattle.algebra.specs.Lists.{upto};
 ghost use Rattle.algebra.specs.Domains as algebra;
 ghost use Rattle.plan.specs.Words as spec;
-ghost use Rattle.plan.specs.Items.{termOf, termRight};
+ghost use Rattle.plan.specs.Terms.{meant};
 ghost use Rattle.plan.specs.Encoding.{termWords, conjunctWords, positionWords};
 ghost use Rattle.pages.specs.Sets.{members};
 ghost use Rattle.pages.specs.Domains.{Means};
 ghost use Rattle.pages.specs.Pages.{Added};
-ghost use Rattle.pages.specs.Items.{itemWords, shiftedWords, movedWords, Small, Movable};
+ghost use Rattle.pages.specs.Items.{itemWords, shiftedWords, movedWords, Near, Movable};
 
 // A local column.
 fn local(position: u32) -> Three
@@ -56,7 +60,7 @@ pub fn set_matches(items: &mut ItemWords, c: Cursor, set: u64, behind: u32) -> C
     let mut c = c;
     let mut found = 0;
     let mut q = 0;
-    while q < 64 {
+    while q < BITS {
         if has(set, q) {
             c = push_item(items, c, 7, local(q), local(behind + found));
             found += 1;
@@ -86,7 +90,7 @@ pub fn set_keys(items: &mut ItemWords, c: Cursor, set: u64) -> Cursor
 {
     let mut c = c;
     let mut q = 0;
-    while q < 64 {
+    while q < BITS {
         if has(set, q) {
             c = push_item(items, c, 11, local(q), local(0));
         }
@@ -167,26 +171,18 @@ fn both(position: u32, width: u32, front: u32, between: u32) -> u32
     front + between + position
 }
 
-// A term, moved.
-fn moved_three(
-    words: &[u32],
-    j: u32,
-    k: u32,
-    d: Domain,
-    width: u32,
-    front: u32,
-    between: u32,
-) -> Three
-    requires { ⌜ (k ≤ 4) × (front ≤ 1000) × (between ≤ 1000) × (termRight (spec.threeAt (now words) j k) ≡ true) × Small (spec.threeAt (now words) j k) ⌝ }
+// A term, moved; a constant or null stays as it stands.
+fn moved_term(term: Term, stands: Three, d: Domain, width: u32, front: u32, between: u32) -> Three
+    requires { ⌜ (front ≤ 1000) × (between ≤ 1000) × Near (meant term)
+        × ((stands .code ∷ stands .level ∷ stands .value ∷ []) ≡ termWords (meant term)) ⌝ }
     ensures { λ r. ⌜ ((D : algebra.Domain) → Means d D → (r .code ∷ r .level ∷ r .value ∷ [])
-        ≡ termWords (algebra.moveTerm D (algebra.shiftBoth width front between) (termOf (spec.threeAt (now (words .entry)) j k)))) ⌝ }
+        ≡ termWords (algebra.moveTerm D (algebra.shiftBoth width front between) (meant term))) ⌝ }
 {
-    let t = three(words, j, k);
-    let code = t.code;
-    match code {
-        0 => local(both(t.value, width, front, between)),
-        1 => local(place(d, t.level, t.value)),
-        _ => t,
+    match term {
+        Term::Local(position) => local(both(position, width, front, between)),
+        Term::Outer { level, position } => local(place(d, level, position)),
+        Term::Constant(_) => stands,
+        Term::Null => stands,
     }
 }
 
@@ -206,17 +202,14 @@ fn moved_item(
         (movedWords D (algebra.shiftBoth width front between) (spec.itemAt (now (words .entry)) j) ∷ [])) ⌝ }
 {
     let t = tag(words, j);
-    let first = moved_three(words, j, 1, d, width, front, between);
+    let stands = three(words, j, 1);
+    let first = moved_term(first_term(words, j), stands, d, width, front, between);
     if t == 8 {
         return push_item(items, c, t, first, local(0));
     }
-    push_item(
-        items,
-        c,
-        t,
-        first,
-        moved_three(words, j, 4, d, width, front, between),
-    )
+    let stands = three(words, j, 4);
+    let second = moved_term(second_term(words, j), stands, d, width, front, between);
+    push_item(items, c, t, first, second)
 }
 
 // Conjuncts or a computation, moved.

@@ -33,6 +33,10 @@ pub record Measured (ws rows : List ℕ) (narrow : ℕ) : Type 0 where
 abbrev pub Widths : List ℕ → List ℕ → Type 0
 Widths ws rows = (m : ℕ) → m < nodes ws → getD rows m 0 ≡ widthAt ws m
 
+-- none is wider than 64
+abbrev pub AllNarrow : List ℕ → List ℕ → Type 0
+AllNarrow ws rows = (m : ℕ) → m < nodes ws → getD rows m 0 ≤ 64
+
 -- ---- reach: one more than the highest level read, 0 where nothing is read
 
 abbrev pub reach : List Column → ℕ

@@ -23,7 +23,7 @@ ghost use Rattle.plan.specs.Words as spec;
 ghost use Rattle.plan.specs.Terms.{meant};
 ghost use Rattle.plan.specs.Verdict.{lowest, isRightSide, scopeOf, termThere, columnsRight};
 ghost use Rattle.plan.specs.Promise.{Formed};
-ghost use Rattle.plan.specs.Passes.{Reaches, Widths, Joins, InPlan, itemThere};
+ghost use Rattle.plan.specs.Passes.{AllNarrow, Reaches, Widths, Joins, InPlan, itemThere};
 
 // Past the last node: no join.
 const NONE: u32 = Plan::NODES;
@@ -146,7 +146,8 @@ fn items_there(words: &[u32], n: u32, w: u32, v: u32, rows: &PerNode, joins: &Pe
 
 // The columns of node n.
 fn columns_right(words: &[u32], n: u32, rows: &PerNode, joins: &PerNode) -> bool
-    requires { ⌜ Formed (now words) × (n < spec.nodes (now words)) × Widths (now words) (now rows) × Joins (now words) (now joins) × InPlan (now words) (now joins) × ((m : ℕ) → m < spec.nodes (now words) → getD (now rows) m 0 ≤ 64) ⌝ }
+    requires { ⌜ Formed (now words) × (n < spec.nodes (now words)) × Widths (now words) (now rows)
+        × Joins (now words) (now joins) × InPlan (now words) (now joins) × AllNarrow (now words) (now rows) ⌝ }
     ensures { λ r. ⌜ r ≡ columnsRight (now (words .entry)) n ⌝ }
 {
     let o = operator(words, n);
@@ -163,7 +164,8 @@ fn columns_right(words: &[u32], n: u32, rows: &PerNode, joins: &PerNode) -> bool
 
 // The lowest node with a column that doesn't exist; the number of nodes where there is none.
 pub fn first_missing(words: &[u32], rows: &PerNode, joins: &PerNode) -> u32
-    requires { ⌜ Formed (now words) × Widths (now words) (now rows) × Joins (now words) (now joins) × InPlan (now words) (now joins) × ((m : ℕ) → m < spec.nodes (now words) → getD (now rows) m 0 ≤ 64) ⌝ }
+    requires { ⌜ Formed (now words) × Widths (now words) (now rows)
+        × Joins (now words) (now joins) × InPlan (now words) (now joins) × AllNarrow (now words) (now rows) ⌝ }
     ensures { λ r. ⌜ r ≡ lowest (λ n. not (columnsRight (now (words .entry)) n)) (spec.nodes (now (words .entry))) ⌝ }
 {
     let count = nodes(words);

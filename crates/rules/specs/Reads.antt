@@ -8,7 +8,7 @@ use lib.ListN.{length, getD}
 use Rattle.algebra.specs.Lists.{any, Every}
 use Rattle.algebra.specs.Columns.{Column, past, shapeAt}
 use Rattle.algebra.specs.Domains.{Domain, spot, domainKeys}
-use Rattle.plan.specs.Words.{Three, operator, left, right}
+use Rattle.plan.specs.Words.{operator, left, right}
 use Rattle.plan.specs.Plan.{widthsOf, nodesOf}
 use Rattle.plan.specs.Verdict.{hasRight}
 use Rattle.pages.specs.declared.domain.Domain as code
@@ -35,10 +35,6 @@ Spotted D w cs = Every (λ c. (c .level < 8) × (c .position < 64) × (spot D (c
 pub record Added (n : ℕ) (f : ℕ → ℕ → Bool) (table table′ : List ℕ) : Type 0 where
   pub size : length table′ ≡ length table
   pub each : (m l p : ℕ) → m < 256 → l < 8 → p < 64 → inSet (getD table′ (8 * m + l) 0) p ≡ (inSet (getD table (8 * m + l) 0) p || (eqb m n && f l p))
-
--- the column of a term
-abbrev pub termRead : Three → ℕ → ℕ → Bool
-termRead t l p = eqb (t .code) 1 && (eqb (t .level) l && eqb (t .value) p)
 
 -- what the table has for input i, counted from level skip on
 abbrev pub inputRead : List ℕ → ℕ → ℕ → ℕ → ℕ → Bool

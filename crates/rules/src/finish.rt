@@ -6,6 +6,7 @@ use pages::page::ItemWords;
 use pages::page::NodeWords;
 use pages::page::last;
 use pages::page::push_node;
+use pages::sets::BITS;
 use pages::sets::rank;
 use pages::writer::columns;
 use pages::writer::copied;
@@ -264,7 +265,7 @@ pub fn with_inner(
         (withInner D (members set) «left_width» «right_width» left right (nodeAt (now (words .entry)) n))) ⌝ }
 {
     let width = d.width;
-    let keys = rank(set, 64);
+    let keys = rank(set, BITS);
     let join_kind = kind(words, n);
     let first = c.items;
     let c = set_matches(items, c, set, width + left_width);

@@ -15,6 +15,7 @@ use pages::page::ItemWords;
 use pages::page::NodeWords;
 use pages::page::last;
 use pages::page::push_node;
+use pages::sets::BITS;
 use pages::sets::rank;
 use plan::PerNode;
 use plan::words::has_right;
@@ -55,7 +56,7 @@ fn reads_left(words: &[u32], n: u32, reads: &ReadSets) -> bool
     if operator(words, n) != 8 {
         return false;
     }
-    rank(reads[8 * wide(right(words, n))], 64) != 0
+    rank(reads[8 * wide(right(words, n))], BITS) != 0
 }
 
 // Node n under d; what is over a limit stays so.

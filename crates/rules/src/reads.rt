@@ -1,12 +1,15 @@
 // The columns that each node reads of the rows outside it: for each node and each level one set.
 use pages::domain::Domain;
 use pages::domain::place;
+use pages::sets::BITS;
 use pages::sets::has;
 use pages::sets::with;
 use plan::Plan;
+use plan::terms::Term;
+use plan::terms::first_term;
+use plan::terms::second_term;
 use plan::words::first_item;
 use plan::words::item_count;
-use plan::words::item_word;
 use plan::words::left;
 use plan::words::nodes;
 use plan::words::operator;
@@ -18,31 +21,31 @@ ghost use Prim.Native.Nat.{ℕ, _+_, _*_, _≤_, _<_};
 ghost use lib.Dec.{eqb};
 ghost use Rattle.algebra.specs.Lists.{any};
 ghost use lib.ListN.{length};
+ghost use Rattle.algebra.specs.Columns.{termReads};
 ghost use Rattle.algebra.specs.Domains as algebra;
 ghost use Rattle.plan.specs.Words as spec;
+ghost use Rattle.plan.specs.Terms.{meant};
 ghost use Rattle.plan.specs.Promise.{Accepted};
 ghost use Rattle.pages.specs.Sets.{inSet, members};
 ghost use Rattle.pages.specs.Domains.{Means};
 ghost use Rattle.rules.specs.Given.{PlanNode};
-ghost use Rattle.rules.specs.Reads.{reads, ReadsTable, Added, termRead, inputRead, inputReads, Filled, KeySet};
+ghost use Rattle.rules.specs.Reads.{reads, ReadsTable, Added, inputRead, inputReads, Filled, KeySet};
 
 // Eight sets for each node.
 pub type ReadSets = [u64; 8 * Plan::NODES as usize];
 
-// The term whose three words begin at word k of item j, read by node n.
-fn add_term(words: &[u32], j: u32, k: u32, n: u32, table: &mut ReadSets)
-    requires { ⌜ (n < 256) × (k ≤ 4) × (length (now table) ≡ 2048) ⌝ }
-    ensures { λ _. ⌜ Added n (termRead (spec.threeAt (now (words .entry)) j k)) (now (table .entry)) (now (table .exit)) ⌝ }
+// The column of a term, read by node n.
+fn add_term(term: Term, n: u32, table: &mut ReadSets)
+    requires { ⌜ (n < 256) × (length (now table) ≡ 2048) ⌝ }
+    ensures { λ _. ⌜ Added n (reads (termReads (meant term))) (now (table .entry)) (now (table .exit)) ⌝ }
 {
-    if item_word(words, j, k) != 1 {
+    let Term::Outer { level, position } = term else {
         return;
-    }
-    let l = item_word(words, j, k + 1);
-    let p = item_word(words, j, k + 2);
-    if l < 8 {
-        if p < 64 {
-            let at = 8 * wide(n) + wide(l);
-            table[at] = with(table[at], p);
+    };
+    if level < 8 {
+        if position < BITS {
+            let at = 8 * wide(n) + wide(level);
+            table[at] = with(table[at], position);
         }
     }
 }
@@ -87,8 +90,8 @@ fn add_node(words: &[u32], n: u32, table: &mut ReadSets)
     let count = item_count(words, n);
     let mut i = 0;
     while i < count {
-        add_term(words, a + i, 1, n, table);
-        add_term(words, a + i, 4, n, table);
+        add_term(first_term(words, a + i), n, table);
+        add_term(second_term(words, a + i), n, table);
         i += 1;
     }
 }
@@ -125,10 +128,10 @@ fn level_spots(d: Domain, level: u32, columns: u64, set: u64) -> u64
 {
     let mut set = set;
     let mut p = 0;
-    while p < 64 {
+    while p < BITS {
         if has(columns, p) {
             let q = spot(d, level, p);
-            if q < 64 {
+            if q < BITS {
                 set = with(set, q);
             }
         }

@@ -1,42 +1,26 @@
 -- Terms and items whose columns moved, as words.
-use mathlib.Core.Path.{_≡_, refl, sym, ap, _∙_}
-use mathlib.Core.Bool.{Bool, true, false, _&&_, _||_}
+use mathlib.Core.Path.{_≡_, refl, sym, ap, subst, _∙_}
+use mathlib.Core.Bool.{Bool, true, false, cond}
 use mathlib.Core.List.{List, [], _∷_, _++_, map}
 use Prim.Native.Nat.{ℕ, _+_, _^_, _≤_, _<_}
 use native.Mathlib.Omega.{arith}
+use lib.IntN.{ℤ}
 use lib.Dec.{leb, eqb}
 use borrow.Author.Tests.{leb-true, eqb-true, ne-eqb}
+use Rattle.algebra.specs.Plan.{Term, column, outer, constant, nothing}
 use Rattle.algebra.specs.Domains as algebra
 use Rattle.algebra.specs.Lists.{upto}
 use Rattle.algebra.proofs.Lists.Keep.{map-map}
-use Rattle.algebra.proofs.Lists.Same.{and-left, and-right}
 use Rattle.plan.specs.Words.{Three, Item, itemAt, itemsFrom}
-use Rattle.plan.specs.Items.{termOf, termRight}
+use Rattle.plan.specs.Items.{signed, termOf, termRight}
 use Rattle.plan.specs.Encoding.{termWords}
-use Rattle.plan.proofs.Laws.Restored.{constant-again}
+use Rattle.plan.proofs.Laws.Restored.{three-again}
+use Rattle.plan.proofs.Laws.Written.{threeOf}
 use Rattle.pages.specs.declared.page.Three as code
 use Rattle.pages.specs.declared.page.Cursor.{Cursor}
 use Rattle.pages.specs.Pages.{Added}
-use Rattle.pages.specs.Items.{movedWords}
+use Rattle.pages.specs.Items.{movedWords, Small, Near}
 use Rattle.pages.proofs.Laws.Writer.{added-same, ended, Local, wordsOf}
-
--- a constant or null stays
-kept : (D : algebra.Domain) (f : ℕ → ℕ) (t : Three) → (t .code ≡ 0 → ⊥) → (t .code ≡ 1 → ⊥) → termRight t ≡ true → t .value < 2 ^ 32
-    → (t .code ∷ t .level ∷ t .value ∷ []) ≡ termWords (algebra.moveTerm D f (termOf t))
-unfolding termOf termRight
-kept D f t x y h v = go (eqb (t .code) 2) refl
-  where
-    parts : (eqb (t .level) 0 && (eqb (t .code) 2 || (eqb (t .code) 3 && eqb (t .value) 0))) ≡ true
-    parts = rw (ne-eqb (t .code) 1 y, ne-eqb (t .code) 0 x) at h
-
-    level : t .level ≡ 0
-    level = eqb-true _ _ (and-left (eqb (t .level) 0) _ parts)
-
-    go : (b : Bool) → eqb (t .code) 2 ≡ b → (t .code ∷ t .level ∷ t .value ∷ []) ≡ termWords (algebra.moveTerm D f (termOf t))
-    go true q = rw (eqb-true (t .code) 2 q, level) (ap (λ (n : ℕ). 2 ∷ 0 ∷ n ∷ []) (sym (constant-again (t .value) v)))
-    go false q =
-        let r : (eqb (t .code) 3 && eqb (t .value) 0) ≡ true = rw q at (and-right (eqb (t .level) 0) _ parts) in
-        rw (eqb-true (t .code) 3 (and-left (eqb (t .code) 3) _ r), level, eqb-true (t .value) 0 (and-right (eqb (t .code) 3) _ r))
 
 -- ---- a term
 
@@ -47,28 +31,47 @@ Same a t = (a .code ≡ t .code) × (a .level ≡ t .level) × (a .value ≡ t .
 abbrev pub threeWords : code.Three → List ℕ
 threeWords a = a .code ∷ a .level ∷ a .value ∷ []
 
-module _ (t : Three) (a : code.Three) (e : Same a t) where
-  -- the level of an outer column
-  pub outer-level : termRight t ≡ true → a .code ≡ 1 → a .level < 8
-  unfolding termRight
-  outer-level h f =
-      let q : t .code ≡ 1 = sym (e .0) ∙ f in
-      let g : leb (t .level) 7 ≡ true = rw q at h in omega (arith, leb-true (t .level) 7 g)
+-- the words of a term
+words-of : (m : Term) → (threeOf m .code ∷ threeOf m .level ∷ threeOf m .value ∷ []) ≡ termWords m
+words-of (column p) = refl
+words-of (outer l p) = refl
+words-of (constant z) = refl
+words-of nothing = refl
 
-  module _ (D : algebra.Domain) (f : ℕ → ℕ) where
-    -- by its code
-    pub moved-local : (r : code.Three) (p : ℕ) → a .code ≡ 0 → p ≡ f (a .value) → Local r p → threeWords r ≡ termWords (algebra.moveTerm D f (termOf t))
-    unfolding termOf
-    moved-local r p g q (x, y, z) = let k : t .code ≡ 0 = sym (e .0) ∙ g in rw (k, ← (e .2), x, y, z, q)
+module _ (t : Three) (right : termRight t ≡ true) {m : Term} (e : m ≡ termOf t) where
+  -- what a decoded term means is near, where its words are
+  pub term-near : Small t → Near m
+  unfolding termOf termRight
+  term-near small = subst Near (sym e) (go (eqb (t .code) 0) refl (eqb (t .code) 1) refl (eqb (t .code) 2))
+    where
+      go : (a : Bool) → eqb (t .code) 0 ≡ a → (b : Bool) → eqb (t .code) 1 ≡ b → (c : Bool)
+          → Near (cond a (column (t .value)) (cond b (outer (t .level) (t .value)) (cond c (constant (signed (t .value))) nothing)))
+      go true p b q c = small (omega (arith, eqb-true (t .code) 0 p))
+      go false p true q c =
+          let g : leb (t .level) 7 ≡ true = rw q at right in
+          (omega (arith, leb-true (t .level) 7 g), small (omega (arith, eqb-true (t .code) 1 q)))
+      go false p false q true = tt
+      go false p false q false = tt
 
-    pub moved-outer : (r : code.Three) (p : ℕ) → a .code ≡ 1 → p ≡ D .place (a .level) (a .value) → Local r p
-        → threeWords r ≡ termWords (algebra.moveTerm D f (termOf t))
-    unfolding termOf
-    moved-outer r p g q (x, y, z) = let k : t .code ≡ 1 = sym (e .0) ∙ g in rw (k, ← (e .1), ← (e .2), x, y, z, q)
+  -- and its words are those that stand
+  pub term-stands : (a : code.Three) → Same a t → a .value < 2 ^ 32 → threeWords a ≡ termWords m
+  term-stands a s v =
+      rw (s .0, s .1, s .2, e)
+      (ap (λ (x : Three). x .code ∷ x .level ∷ x .value ∷ []) (sym (three-again t right (rw (s .2) at v))) ∙ words-of (termOf t))
 
-    pub moved-other : (a .code ≡ 0 → ⊥) → (a .code ≡ 1 → ⊥) → termRight t ≡ true → a .value < 2 ^ 32
-        → threeWords a ≡ termWords (algebra.moveTerm D f (termOf t))
-    moved-other x y h v = rw (e .0, e .1, e .2) (kept D f t (λ q. x (e .0 ∙ q)) (λ q. y (e .0 ∙ q)) h (rw (e .2) at v))
+module _ (D : algebra.Domain) (f : ℕ → ℕ) (r : code.Three) where
+  -- by what it is
+  pub moved-local : {m : Term} (p q : ℕ) → m ≡ column p → q ≡ f p → Local r q → threeWords r ≡ termWords (algebra.moveTerm D f m)
+  moved-local p q e g (x, y, z) = rw (e, x, y, z, g)
+
+  pub moved-outer : {m : Term} (l p q : ℕ) → m ≡ outer l p → q ≡ D .place l p → Local r q → threeWords r ≡ termWords (algebra.moveTerm D f m)
+  moved-outer l p q e g (x, y, z) = rw (e, x, y, z, g)
+
+  pub moved-constant : {m : Term} (k : ℤ) → m ≡ constant k → threeWords r ≡ termWords m → threeWords r ≡ termWords (algebra.moveTerm D f m)
+  moved-constant k e w = rw e (w ∙ ap termWords e)
+
+  pub moved-null : {m : Term} → m ≡ nothing → threeWords r ≡ termWords m → threeWords r ≡ termWords (algebra.moveTerm D f m)
+  moved-null e w = rw e (w ∙ ap termWords e)
 
 -- ---- an item
 

@@ -52,7 +52,7 @@ code-few t e = go (leb c 3) refl
         (rw (ne-eqb c 1 (λ q. omega arith), ne-eqb c 0 (λ q. omega arith), ne-eqb c 2 (λ q. omega arith), ne-eqb c 3 (λ q. omega arith)) at e))))
 
 -- a used term
-three-again : (t : Three) → termRight t ≡ true → t .value < 2 ^ 32 → threeOf (termOf t) ≡ t
+pub three-again : (t : Three) → termRight t ≡ true → t .value < 2 ^ 32 → threeOf (termOf t) ≡ t
 unfolding termOf termRight
 three-again t e h =
     upto-all {P = Again} 4 (more local (more far (more fixed (more null done)))) (t .code) (omega (arith, code-few t e)) e

@@ -20,7 +20,7 @@ use Rattle.plan.specs.Verdict.{hasRight, itemsRight}
 use Rattle.plan.specs.Promise.{Formed}
 use Rattle.plan.proofs.Laws.Formed.{by-operator, facts-at, shape-of}
 use Rattle.plan.proofs.Laws.Reach.{all-every, front-every, items-every}
-use Rattle.rules.specs.Reads.{readsAt, reads, termRead, inputReads}
+use Rattle.rules.specs.Reads.{readsAt, reads, inputReads}
 
 -- ---- lists of columns
 
@@ -79,18 +79,6 @@ inner-none t e = rw e (go (eqb (t .code) 0) (eqb (t .code) 2) _ _ _ refl refl re
     go true b u v w e g h = e
     go false true u v w e g h = g
     go false false u v w e g h = h
-
-three-reads : (t : Three) (l p : ℕ) → reads (termReads (termOf t)) l p ≡ termRead t l p
-unfolding termOf
-three-reads t l p = go (eqb (t .code) 1) refl
-  where
-    go : (b : Bool) → eqb (t .code) 1 ≡ b → reads (termReads (termOf t)) l p ≡ (b && (eqb (t .level) l && eqb (t .value) p))
-    go true e = rw (eqb-true (t .code) 1 e, cond-or (eqb (t .level) l && eqb (t .value) p) false) (or-false _)
-    go false e = rw (inner-none t e)
-
-pub item-reads : (x : Item) (l p : ℕ) → reads (itemReads x) l p ≡ (termRead (x .first) l p || termRead (x .second) l p)
-item-reads x l p =
-    reads-append (termReads (termOf (x .first))) (termReads (termOf (x .second))) l p ∙ ap₂ _||_ (three-reads (x .first) l p) (three-reads (x .second) l p)
 
 local-none : (t : Three) → isLocal t ≡ true → termReads (termOf t) ≡ []
 local-none t e = inner-none t (rw (eqb-true (t .code) 0 (and-left (eqb (t .code) 0) (eqb (t .level) 0) e)))

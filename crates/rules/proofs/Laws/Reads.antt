@@ -1,6 +1,6 @@
 -- The table of read columns, filled node by node.
 use mathlib.Core.Path.{_≡_, refl, sym, ap, ap₂, _∙_}
-use mathlib.Core.Bool.{Bool, true, false, _&&_, _||_, and-false, or-false, or-comm}
+use mathlib.Core.Bool.{Bool, true, false, cond, _&&_, _||_, and-false, or-false, or-comm}
 use mathlib.Core.List.{List, [], _∷_, _++_, append-nil}
 use mathlib.Core.Logic.{_⊎_, inl, inr, ⊎-elim}
 use Prim.Native.Nat.{ℕ, suc, _+_, _*_, _^_, _<_, _≤_}
@@ -11,19 +11,27 @@ use lib.Dec.{eqb, ltb}
 use lib.Bits.{bitOr}
 use lib.ListN.{length, getD, set, replicate, length-set, length-replicate, getD-replicate}
 use lib.Seq.{getD-set-same, getD-set-other}
+use types.Run.{OneOf, miss}
+use denote.Enum.Declared.{tagOf}
 use borrow.Author.Tests.{eqb-true, eqb-false, eq-eqb, ne-eqb, ltb-true, ltb-false, lt-ltb, le-ltb}
 use Rattle.algebra.specs.Lists.{each, upto}
-use Rattle.algebra.specs.Columns.{Column, past}
+use Rattle.algebra.specs.Plan.{Term, outer}
+use Rattle.algebra.specs.Columns.{Column, termReads, past}
 use Rattle.algebra.proofs.Lists.Keep.{map-append, each-append}
 use Rattle.plan.specs.Words.{nodes, operator, left, right, firstItem, itemCount, threeAt, itemAt, itemsFrom, itemsOf}
+use Rattle.plan.specs.Items.{termOf}
+use Rattle.plan.specs.Terms.{meant}
+use Rattle.plan.specs.declared.terms.Term as code
+use Rattle.plan.specs.declared.terms.Term.the-variants.{Local, Outer, Constant, Null}
+use Rattle.plan.proofs.terms.Term as term
 use Rattle.plan.specs.Verdict.{hasRight}
 use Rattle.plan.specs.Promise.{Accepted}
 use Rattle.plan.proofs.Laws.Formed.{NodeFacts, facts-at}
 use Rattle.pages.specs.Sets.{inSet}
-use Rattle.rules.specs.Reads.{readsAt, reads, ReadsTable, Added, termRead, inputRead, inputReads, Filled}
+use Rattle.rules.specs.Reads.{readsAt, reads, ReadsTable, Added, inputRead, inputReads, Filled}
 use Rattle.pages.proofs.Laws.Sets.{in-or, in-with}
 use Rattle.pages.proofs.Laws.Limits.{node-index}
-use Rattle.rules.proofs.Laws.ColumnsRead.{reads-append, reads-past, Low, low-none, itemReads, item-reads, reads-at, reads-low}
+use Rattle.rules.proofs.Laws.ColumnsRead.{reads-append, reads-past, Low, low-none, itemReads, reads-at, reads-low}
 
 -- ---- a table with more in it
 
@@ -68,27 +76,38 @@ added-at table n k v b hn hk e h = record { size = length-set table (8 * n + k) 
 
 -- ---- a term
 
-module _ (ws : List ℕ) (j k n : ℕ) (table : List ℕ) {code : ℕ} (ec : code ≡ threeAt ws j k .code) where
+-- a test as it is, or with nothing behind it
+just : (b : Bool) → cond b true false ≡ b
+just true = refl
+just false = refl
+
+-- a term that is no outer column reads nothing
+pub inner-term : (t : code.Term) → OneOf (0 ∷ 2 ∷ 3 ∷ []) (tagOf term.the-type t) → termReads (meant t) ≡ []
+inner-term (Local p) h = refl
+inner-term (Outer l p) h = absurd (miss (0 ∷ 2 ∷ 3 ∷ []) 1 tt h)
+inner-term (Constant z) h = refl
+inner-term Null h = refl
+
+module _ (n : ℕ) (table : List ℕ) (m : Term) where
   -- no outer column
-  pub term-inner : (code ≡ 1 → ⊥) → Added n (termRead (threeAt ws j k)) table table
-  term-inner h = added-none n _ table (λ l p hl hp. rw (ne-eqb (threeAt ws j k .code) 1 (λ q. h (ec ∙ q))))
+  pub term-none : termReads m ≡ [] → Added n (reads (termReads m)) table table
+  term-none e = added-none n _ table (λ l p hl hp. ap (λ (cs : List Column). reads cs l p) e)
 
-  module _ {l p : ℕ} (el : l ≡ threeAt ws j k .level) (ep : p ≡ threeAt ws j k .value) where
+  module _ (l p : ℕ) (e : m ≡ outer l p) where
     -- an outer column that the table has no place for
-    pub term-far : 8 ≤ l → Added n (termRead (threeAt ws j k)) table table
-    term-far h = added-none n _ table (λ x y hx hy. rw (ne-eqb (threeAt ws j k .level) x (λ q. omega arith), and-false))
+    pub term-far : 8 ≤ l → Added n (reads (termReads m)) table table
+    term-far h = added-none n _ table (λ x y hx hy. rw (e, ne-eqb l x (λ q. omega arith)))
 
-    pub term-wide : 64 ≤ p → Added n (termRead (threeAt ws j k)) table table
-    term-wide h =
-        added-none n _ table (λ x y hx hy. rw (ne-eqb (threeAt ws j k .value) y (λ q. omega arith), and-false (eqb (threeAt ws j k .level) x), and-false))
+    pub term-wide : 64 ≤ p → Added n (reads (termReads m)) table table
+    term-wide h = added-none n _ table (λ x y hx hy. rw (e, ne-eqb p y (λ q. omega arith), and-false (eqb l x)))
 
     -- an outer column
-    pub term-outer : code ≡ 1 → n < 256 → l < 8 → length table ≡ 2048 → {i q v : ℕ} → i ≡ n → q ≡ l → v ≡ bitOr (getD table (8 * i + q) 0) (2 ^ p)
-        → Added n (termRead (threeAt ws j k)) table (set table (8 * i + q) v)
-    term-outer h hn hl e {i} {q} {v} ei eq ev =
+    pub term-outer : n < 256 → l < 8 → length table ≡ 2048 → {i q v : ℕ} → i ≡ n → q ≡ l → v ≡ bitOr (getD table (8 * i + q) 0) (2 ^ p)
+        → Added n (reads (termReads m)) table (set table (8 * i + q) v)
+    term-outer hn hl long {i} {q} {v} ei eq ev =
         rw (ei, eq)
-        (added-same (added-at table n l v (eqb p) hn hl e (λ r. ap (λ (s : ℕ). inSet s r) (rw (ei, eq) at ev) ∙ in-with (getD table (8 * n + l) 0) p r))
-        (λ x y hx hy. rw (eq-eqb (threeAt ws j k .code) 1 (sym ec ∙ h), sym el, sym ep)))
+        (added-same (added-at table n l v (eqb p) hn hl long (λ r. ap (λ (s : ℕ). inSet s r) (rw (ei, eq) at ev) ∙ in-with (getD table (8 * n + l) 0) p r))
+        (λ x y hx hy. rw e (sym (just (eqb l x && eqb p y)))))
 
 -- ---- an input
 
@@ -229,10 +248,11 @@ module _ (ws : List ℕ) (n a : ℕ) where
   items-none {t} = added-none n (reads []) t (λ l p hl hp. refl)
 
   -- one item more
-  pub items-more : (i : ℕ) {t u v w : List ℕ} → Added n (reads (each itemReads (itemsFrom ws a i))) t u
-      → Added n (termRead (threeAt ws (a + i) 1)) u v → Added n (termRead (threeAt ws (a + i) 4)) v w
+  pub items-more : (i : ℕ) {t u v w : List ℕ} {first second : Term} → Added n (reads (each itemReads (itemsFrom ws a i))) t u
+      → first ≡ termOf (threeAt ws (a + i) 1) → Added n (reads (termReads first)) u v
+      → second ≡ termOf (threeAt ws (a + i) 4) → Added n (reads (termReads second)) v w
       → Added n (reads (each itemReads (itemsFrom ws a (i + 1)))) t w
-  items-more i x y z = added-same (added-both x (added-both y z)) (λ l p hl hp. sym (more-reads l p))
+  items-more i {first = f} {second = s} x ef y es z = added-same (added-both x (added-both y z)) (λ l p hl hp. sym (more-reads l p))
     where
       front : List Column
       front = each itemReads (itemsFrom ws a i)
@@ -241,8 +261,7 @@ module _ (ws : List ℕ) (n a : ℕ) where
       last = itemReads (itemAt ws (a + i))
 
       more-reads : (l p : ℕ)
-          → reads (each itemReads (itemsFrom ws a (i + 1))) l p
-          ≡ (reads front l p || (termRead (threeAt ws (a + i) 1) l p || termRead (threeAt ws (a + i) 4) l p))
+          → reads (each itemReads (itemsFrom ws a (i + 1))) l p ≡ (reads front l p || (reads (termReads f) l p || reads (termReads s) l p))
       more-reads l p =
           rw (
             add-one i,
@@ -250,8 +269,10 @@ module _ (ws : List ℕ) (n a : ℕ) where
             each-append itemReads (itemsFrom ws a i)
                 (itemAt ws (a + i) ∷ []),
             append-nil last,
+            ef,
+            es,
           )
-          (reads-append front last l p ∙ ap (λ (b : Bool). reads front l p || b) (item-reads (itemAt ws (a + i)) l p))
+          (reads-append front last l p ∙ ap (λ (b : Bool). reads front l p || b) (reads-append (termReads (termOf (threeAt ws (a + i) 1))) _ l p))
 
 -- ---- all nodes
 

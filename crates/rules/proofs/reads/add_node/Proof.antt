@@ -31,33 +31,38 @@ loop-holds c =
     let s = c .before .before .before .before .before .args in
     (omega arith, items-none (s .words .now) (s .n) (c .before .first-item .result))
 
-add-add-term : tie.Need-add-add-term Inv-loop μ-loop
-add-add-term c =
+add-first-term : tie.Need-add-first-term Inv-loop μ-loop
+add-first-term c =
     let l = c .before in
     let s = l .before .before .before .before .before .before in
     let w = items-within (s .pre .0 .0) (s .pre .0 .1) (l .before .before .first-item .ensures) (l .before .item-count .ensures) in
     search needs
 
+first-term-requires : tie.Need-first-term-requires Inv-loop μ-loop
+first-term-requires c κs = search needs
+
 add-term-requires : tie.Need-add-term-requires Inv-loop μ-loop
 add-term-requires c κs =
-    let l = c .before .before in
-    let s = l .before .before .before .before .before .before in
-    (node-index (s .pre .0 .0) (s .pre .0 .1) refl, omega arith, l .loop .inv .1 .size ∙ l .before .before .before .add-inputs .ensures .size ∙ s .pre .1 .size)
-
-add-add-term-2 : tie.Need-add-add-term-2 Inv-loop μ-loop
-add-add-term-2 c =
     let l = c .before .before .before in
+    let s = l .before .before .before .before .before .before in
+    (node-index (s .pre .0 .0) (s .pre .0 .1) refl, l .loop .inv .1 .size ∙ l .before .before .before .add-inputs .ensures .size ∙ s .pre .1 .size)
+
+add-second-term : tie.Need-add-second-term Inv-loop μ-loop
+add-second-term c =
+    let l = c .before .before .before .before in
     let s = l .before .before .before .before .before .before in
     let w = items-within (s .pre .0 .0) (s .pre .0 .1) (l .before .before .first-item .ensures) (l .before .item-count .ensures) in
     search needs
 
+second-term-requires : tie.Need-second-term-requires Inv-loop μ-loop
+second-term-requires c κs = search needs
+
 add-term-requires-2 : tie.Need-add-term-requires-2 Inv-loop μ-loop
 add-term-requires-2 c κs =
-    let l = c .before .before .before .before in
+    let l = c .before .before .before .before .before .before in
     let s = l .before .before .before .before .before .before in (
       node-index (s .pre .0 .0) (s .pre .0 .1) refl,
-      omega arith,
-      c .before .add-term .ensures .size ∙ l .loop .inv .1 .size ∙ l .before .before .before .add-inputs .ensures .size ∙ s .pre .1 .size,
+      c .before .before .add-term .ensures .size ∙ l .loop .inv .1 .size ∙ l .before .before .before .add-inputs .ensures .size ∙ s .pre .1 .size,
     )
 
 add-i : tie.Need-add-i Inv-loop μ-loop
@@ -68,11 +73,12 @@ loop-less c = search needs
 
 loop-again : tie.Need-loop-again Inv-loop μ-loop
 loop-again c =
-    let l = c .before .before .before .before .before in
+    let first = c .before .before .before in
+    let l = first .before .before .before .before in
     let s = l .before .before .before .before .before .before .args in (
       omega arith,
       items-more (s .words .now) (s .n) (l .before .before .first-item .result) (l .loop .i) (l .loop .inv .1)
-          (c .before .before .add-term .ensures) (c .add-term2 .ensures),
+          (first .before .before .first-term .ensures) (first .add-term .ensures) (c .before .before .second-term .ensures) (c .add-term2 .ensures),
     )
 
 returns : tie.Need-returns Inv-loop μ-loop
@@ -92,9 +98,11 @@ add-node-spec =
     first-item-requires
     item-count-requires
     loop-holds
-    add-add-term
+    add-first-term
+    first-term-requires
     add-term-requires
-    add-add-term-2
+    add-second-term
+    second-term-requires
     add-term-requires-2
     add-i
     loop-less
