@@ -21,11 +21,13 @@ write-counts-requires c κs =
 
 widest-row-requires : tie.Need-widest-row-requires Inv-loop μ-loop
 widest-row-requires c κs =
-    (c .before .before .before .before .before .before .before .pre .4, omega (arith, limited _ (c .before .before .before .before .before .before .before .pre .0 .formed .sized) .nodes-few))
+    let p = c .before .before .before .before .before .before .before .pre in
+    (p .4, omega (arith, limited _ (p .0 .formed .sized) .nodes-few))
 
 mul-area : tie.Need-mul-area Inv-loop μ-loop
 mul-area c =
-    omega (arith, area-small _ (c .before .before .before .before .before .before .before .before .pre .0) (c .before .before .before .before .before .before .before .before .pre .3) (c .widest-row .ensures))
+    let p = c .before .before .before .before .before .before .before .before .pre in
+    omega (arith, area-small _ (p .0) (p .3) (c .widest-row .ensures))
 
 nodes-requires : tie.Need-nodes-requires Inv-loop μ-loop
 nodes-requires c κs = search needs
@@ -52,14 +54,16 @@ mul-layout c = search needs
 
 element-copy-out-layout : tie.Need-element-copy-out-layout Inv-loop μ-loop
 element-copy-out-layout c =
-    omega (arith, limited _ (c .before .before .before .before .before .before .before .before .before .before .before .before .before .pre .0 .formed .sized) .nodes-few)
+    let p = c .before .before .before .before .before .before .before .before .before .before .before .before .before .pre in
+    omega (arith, limited _ (p .0 .formed .sized) .nodes-few)
 
 mul-layout-2 : tie.Need-mul-layout-2 Inv-loop μ-loop
 mul-layout-2 c = search needs
 
 slice-write-layout : tie.Need-slice-write-layout Inv-loop μ-loop
 slice-write-layout c =
-    omega (arith, limited _ (c .before .before .before .before .before .before .before .before .before .before .before .before .before .before .pre .0 .formed .sized) .nodes-few)
+    let p = c .before .before .before .before .before .before .before .before .before .before .before .before .before .before .pre in
+    omega (arith, limited _ (p .0 .formed .sized) .nodes-few)
 
 wide-requires-3 : tie.Need-wide-requires-3 Inv-loop μ-loop
 wide-requires-3 c κs = search needs
