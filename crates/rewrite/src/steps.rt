@@ -31,7 +31,6 @@ ghost use mathlib.Core.List.{[], _∷_, _++_};
 ghost use Prim.Native.Nat.{_<_};
 ghost use lib.ListN.{getD};
 ghost use Rattle.algebra.specs.Columns.{closed, shapeAt};
-ghost use Rattle.plan.specs.Words as spec;
 ghost use Rattle.plan.specs.Plan.{nodeAt, widthsOf, nodesOf};
 ghost use Rattle.plan.specs.Promise.{Accepted};
 ghost use Rattle.rewrite.specs.Answer.{newPlan};
