@@ -6,7 +6,7 @@ use Rattle.plan.specs.declared.Refusal.the-variants.{Header, Limits, Malformed,
 use Rattle.evaluate.specs.declared.Evaluated.{Evaluated}
 use Rattle.evaluate.specs.declared.Evaluated.the-variants.{Rows, Refused, Database, Limit, Scratch, Output, TooMany, OutOfRange}
 use Rattle.evaluate.specs.Answer.{Evaluation}
-use Rattle.evaluate.specs.Outcomes.{evaluationOf}
+use Rattle.evaluate.specs.Numbers.{evaluationOf}
 
 -- the answer that a number, a node and a count name
 abbrev evaluatedFrom : Evaluation → Evaluated

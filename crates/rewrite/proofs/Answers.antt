@@ -6,7 +6,7 @@ use Rattle.plan.specs.declared.Refusal.the-variants.{Header, Limits, Malformed,
 use Rattle.rewrite.specs.declared.Rewritten.{Rewritten}
 use Rattle.rewrite.specs.declared.Rewritten.the-variants.{Words, Refused, OverLimits, NoRoom}
 use Rattle.plan.specs.Verdict.{CountedAnswer}
-use Rattle.rewrite.specs.Outcomes.{rewritingOf}
+use Rattle.rewrite.specs.Numbers.{rewritingOf}
 
 -- the answer that a number, a node and a count name
 abbrev rewrittenFrom : CountedAnswer → Rewritten

@@ -1,3 +1,3 @@
 pub mod Answer
 pub mod Closing
-pub mod Outcomes
+pub mod Numbers

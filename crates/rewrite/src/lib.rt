@@ -15,7 +15,7 @@ ghost use mathlib.Core.Path.{_≡_};
 ghost use lib.ListN.{length};
 ghost use Rattle.plan.specs.Verdict.{verdict, accepted};
 ghost use Rattle.rewrite.specs.Answer.{rewriting, outputAfter};
-ghost use Rattle.rewrite.specs.Outcomes.{rewritingOf};
+ghost use Rattle.rewrite.specs.Numbers.{rewritingOf};
 
 pub enum Rewritten {
     Words(u32),

@@ -31,7 +31,7 @@ use Rattle.plan.proofs.Laws.Numbered.{every-all, numbered, numbered-length}
 use Rattle.plan.proofs.Laws.Words.{word-read}
 use Rattle.pages.specs.declared.page.Cursor.{Cursor}
 use Rattle.rewrite.specs.declared.Rewritten.the-variants.{Words, Refused, OverLimits, NoRoom}
-use Rattle.rewrite.specs.Outcomes.{rewritingOf}
+use Rattle.rewrite.specs.Numbers.{rewritingOf}
 use Rattle.rewrite.specs.Answer.{withinLimits, newPlan, newWords, refusal, rewriting, outputAfter}
 use Rattle.pages.specs.Output.{total, table}
 use Rattle.pages.specs.Pages.{Fits, Holds, Finished}

@@ -1,6 +1,6 @@
 use mathlib.Core.Path.{refl}
 use Rattle.evaluate.specs.declared.Evaluated.the-variants.{Rows, Refused, Database, Limit, Scratch, Output, TooMany, OutOfRange}
-use Rattle.evaluate.specs.Outcomes.{evaluationOf}
+use Rattle.evaluate.specs.Numbers.{evaluationOf}
 use Rattle.tunesaturn.proofs.Gives.{gives, gives-refused}
 use borrow.Author.Needs.{needs}
 use Rattle.tunesaturn.proofs.tunesaturn_evaluate.Statement.{statement}

@@ -1,6 +1,6 @@
 use mathlib.Core.Path.{refl}
 use Rattle.rewrite.specs.declared.Rewritten.the-variants.{Words, Refused, OverLimits, NoRoom}
-use Rattle.rewrite.specs.Outcomes.{rewritingOf}
+use Rattle.rewrite.specs.Numbers.{rewritingOf}
 use Rattle.tunesaturn.proofs.Gives.{gives, gives-refused}
 use borrow.Author.Needs.{needs}
 use Rattle.tunesaturn.proofs.tunesaturn_rewrite.Statement.{statement}
