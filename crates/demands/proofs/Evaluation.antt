@@ -19,6 +19,7 @@ use Rattle.demands.specs.Evaluation.{rowsOf, seen, answered, written, Gi
 use Rattle.demands.specs.Visits.{First, judged}
 use Rattle.demands.proofs.Judged.{kept-judged, judged-kept, judged-first, first-judged}
 use Rattle.demands.proofs.Visited.{run-judged}
+use Rattle.demands.proofs.Seen.{every-seen}
 
 module _ (ws counts : List ℕ) (cells : List ℤ) (R : ℕ) (scratch out : List ℤ) where
   module _ (e : isRun ws counts cells R (length scratch) (length out) ≡ true) where
@@ -93,6 +94,7 @@ module _ (ws counts : List ℕ) (cells : List ℤ) (R : ℕ) (scratch out : List
       accepted-only-when = λ z.
           let d = done-when z in judged-kept R (seen ws counts cells) (rowsOf ws counts cells) (d .0) (sym run-is ∙ d .1);
       refused-when = λ k n f. answered-is (refused k n) (run-is ∙ first-judged R (seen ws counts cells) k n f (done (rowsOf ws counts cells)));
+      from-the-rules = every-seen (widthsOf ws) (databaseOf ws counts cells) (nodesOf ws) (promise ws (past .plan) .plan .nodes);
       never-both = not-both (databaseOf ws counts cells) R (database-ranging ws counts cells (past .database)) (past .low);
       cleared = rw e;
     }

@@ -4,4 +4,5 @@ pub mod Agreement
 pub mod Rewriting
 pub mod Judged
 pub mod Visited
+pub mod Seen
 pub mod Evaluation

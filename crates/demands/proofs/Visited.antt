@@ -70,13 +70,13 @@ module _ (widths : List ℕ) (db : Database) (ns : List Node) where
 
   module _ (n : ℕ) (l : n < length ns) (below : Every (λ j. j < n) (inputs (getD ns n (scan 0)))) where
     -- the rows of a node from those of its inputs
-    node-rows : (o : Outer) → rowsAt widths db ns n o ≡ nodeRows widths db (resultOf widths db ns) (getD ns n (scan 0)) o
+    pub node-rows : (o : Outer) → rowsAt widths db ns n o ≡ nodeRows widths db (resultOf widths db ns) (getD ns n (scan 0)) o
     node-rows o =
         ap (λ (r : Result). r .rows o) (result-at widths db ns n (scan 0) l)
         ∙ rows-same (resultOf widths db (take n ns)) (resultOf widths db ns) (getD ns n (scan 0)) o
         (every-map (λ j (g : j < n). sym (result-before widths db ns n (scan 0) l j g)) below)
 
-    visits-at : (o : Outer) → visitsAt widths db ns n o ≡ visitsOf widths db ns (visitsAt widths db ns) n (getD ns n (scan 0)) o
+    pub visits-at : (o : Outer) → visitsAt widths db ns n o ≡ visitsOf widths db ns (visitsAt widths db ns) n (getD ns n (scan 0)) o
     unfolding visitsAt
     visits-at o =
         let f : (ℕ → Outer → List Visit) → ℕ → Outer → List Visit = λ at m p. visitsOf widths db ns at m (getD ns m (scan 0)) p in

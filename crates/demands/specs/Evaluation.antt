@@ -13,7 +13,7 @@ use Rattle.store.specs.Cells.{cellsOf}
 use Rattle.store.specs.Database.{databaseOf}
 use Rattle.evaluate.specs.Answer.{Evaluation, refusal, isRun, evaluation, outputAfter, scratchAfter}
 use Rattle.working.specs.Statements.{NeverBoth, Kept}
-use Rattle.demands.specs.Visits.{Visit, visits, First}
+use Rattle.demands.specs.Visits.{Visit, visits, Seen, First}
 
 -- the rows that the operator rules give the plan over the database
 abbrev pub rowsOf : List ℕ → List ℕ → List ℤ → List Row
@@ -42,13 +42,15 @@ module _ (ws counts : List ℕ) (cells : List ℤ) (R : ℕ) (scratch out : List
     pub count : answered .count ≡ 0
     pub output : written ≡ out
 
-  -- a call that gets past refusal 13: 14 and 15 exactly when a visit is refused, and accepted exactly when none is
+  -- a call that gets past refusal 13: 14 and 15 exactly when a visit is refused, and accepted exactly when none is; a visit is one of a node
+  -- that the order reaches, under outer rows that the operator rules give
   pub record Runs : Type 0 where
     pub gives : answered .number ≡ 0 → Gives
     pub stops : (answered .number ≡ 0 → ⊥) → Stops
     pub accepted-when : Every (λ v. Kept R (v .rows)) (seen ws counts cells) → answered .number ≡ 0
     pub accepted-only-when : answered .number ≡ 0 → Every (λ v. Kept R (v .rows)) (seen ws counts cells)
     pub refused-when : (k n : ℕ) → First R (seen ws counts cells) k n → answered ≡ record { number = k; node = n; count = 0 }
+    pub from-the-rules : Every (Seen (widthsOf ws) (databaseOf ws counts cells) (nodesOf ws)) (seen ws counts cells)
     pub never-both : NeverBoth (databaseOf ws counts cells) R
     pub cleared : scratchAfter ws counts cells R scratch (length out) ≡ replicate (length scratch) (pos 0)
 

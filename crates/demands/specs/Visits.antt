@@ -4,14 +4,14 @@ use mathlib.Core.Path.{_≡_}
 use mathlib.Core.Bool.{true, false, cond, _||_}
 use mathlib.Core.List.{List, [], _∷_, _++_}
 use Prim.Native.Nat.{ℕ, _≤_, _<_}
+use lib.Dec.{leb, eqb}
 use lib.ListN.{length, getD}
-use Rattle.algebra.specs.Lists.{keep, all, each, upto, entry, Every}
+use Rattle.algebra.specs.Lists.{keep, any, all, each, upto, entry, Every}
 use Rattle.algebra.specs.Value.{Row}
-use Rattle.algebra.specs.Plan.{Node, scan, select, compute, project, join, group, groupjoin, dependent, inputs}
+use Rattle.algebra.specs.Plan.{Kind, Conjunct, Node, scan, select, compute, project, join, group, groupjoin, dependent}
 use Rattle.algebra.specs.Operators.{Outer, joined, partners}
 use Rattle.algebra.specs.Meaning.{Database, resultOf}
 use Rattle.algebra.specs.Columns.{shapeAt, closed}
-use lib.Dec.{leb, eqb}
 use Rattle.store.specs.Cells.{inRange}
 use Rattle.working.specs.Run.{Outcome, refused}
 use Rattle.working.specs.Statements.{Kept}
@@ -58,6 +58,36 @@ module _ (widths : List ℕ) (db : Database) (ns : List Node) where
   -- "Closed nodes are worked out once each in number order"
   unfoldable pub visits : List Visit
   visits = each (λ n. visitsAt n []) (keep (λ n. closed (shapeAt widths ns n)) (upto (length ns)))
+
+-- ---- where visits come from
+
+-- the inputs that see the outer rows of their node: not the right side of a dependent join
+abbrev pub alongside : Node → List ℕ
+alongside (scan t) = []
+alongside (select cs i) = i ∷ []
+alongside (compute c i) = i ∷ []
+alongside (project ps i) = i ∷ []
+alongside (join k cs l r) = l ∷ r ∷ []
+alongside (group ks gs i) = i ∷ []
+alongside (groupjoin cs gs l r) = l ∷ r ∷ []
+alongside (dependent k cs l r) = l ∷ []
+
+module _ (widths : List ℕ) (db : Database) (ns : List Node) where
+  -- the nodes that the order reaches, and the outer rows around them: none for a closed node, for an open one those of the node above it, and
+  -- for the right side of a dependent join in front of these a row that the operator rules give its left input
+  pub data Reached : ℕ → Outer → Type 0 where
+    alone : {n : ℕ} → n < length ns → closed (shapeAt widths ns n) ≡ true → Reached n []
+    beneath : {n i : ℕ} {o : Outer} → Reached n o → any (eqb i) (alongside (getD ns n (scan 0))) ≡ true → closed (shapeAt widths ns i) ≡ false → Reached i o
+    bound : {n l r : ℕ} {k : Kind} {cs : List Conjunct} {o : Outer} {x : Row} (earlier later : List Row) → Reached n o
+        → getD ns n (scan 0) ≡ dependent k cs l r → rowsAt widths db ns l o ≡ earlier ++ (x ∷ later) → closed (shapeAt widths ns r) ≡ false → Reached r (x ∷ o)
+
+  -- the rows of a visit are the first that the operator rules give its node under such outer rows: those of the bindings so far for a dependent
+  -- join, all of them for any other node
+  pub record Seen (v : Visit) : Type 0 where
+    pub around : Outer
+    pub reached : Reached (v .node) around
+    pub rest : List Row
+    pub first : v .rows ++ rest ≡ rowsAt widths db ns (v .node) around
 
 -- ---- which visit is refused
 
