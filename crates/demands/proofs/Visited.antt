@@ -44,29 +44,17 @@ module _ (widths : List ℕ) (db : Database) (ns : List Node) where
       ap (λ (q : Result). joinRows k (a r .width) o cs (q .rows o) (λ x. a r .rows (x ∷ o))) (every-head h)
       ∙ ap (λ (q : Result). joinRows k (q .width) o cs (b l .rows o) (λ x. q .rows (x ∷ o))) (every-head (every-tail h))
 
-  -- and so do its visits: those of an input, of two, and of a node
-  anew-same : (a b : ℕ → Outer → List Visit) (i : ℕ) (o : Outer) (vs : List Visit) → a i ≡ b i
-      → anew widths db ns a i o ++ vs ≡ anew widths db ns b i o ++ vs
-  anew-same a b i o vs e = ap (λ (q : Outer → List Visit). cond (closed (shapeAt widths ns i)) [] (q o) ++ vs) e
-
-  both-same : (a b : ℕ → Outer → List Visit) (l r : ℕ) (o : Outer) (vs : List Visit) → a l ≡ b l → a r ≡ b r
-      → anew widths db ns a l o ++ (anew widths db ns a r o ++ vs) ≡ anew widths db ns b l o ++ (anew widths db ns b r o ++ vs)
-  both-same a b l r o vs e f =
-      anew-same a b l o (anew widths db ns a r o ++ vs) e ∙ ap (λ (us : List Visit). anew widths db ns b l o ++ us) (anew-same a b r o vs f)
-
+  -- and so do its visits
   visits-same : (a b : ℕ → Outer → List Visit) (n : ℕ) (x : Node) (o : Outer) → Every (λ j. a j ≡ b j) (inputs x)
       → visitsOf widths db ns a n x o ≡ visitsOf widths db ns b n x o
   visits-same a b n (scan t) o h = refl
-  visits-same a b n (select cs i) o h = anew-same a b i o _ (every-head h)
-  visits-same a b n (compute c i) o h = anew-same a b i o _ (every-head h)
-  visits-same a b n (project ps i) o h = anew-same a b i o _ (every-head h)
-  visits-same a b n (group ks gs i) o h = anew-same a b i o _ (every-head h)
-  visits-same a b n (join k cs l r) o h = both-same a b l r o _ (every-head h) (every-head (every-tail h))
-  visits-same a b n (groupjoin cs gs l r) o h = both-same a b l r o _ (every-head h) (every-head (every-tail h))
-  visits-same a b n (dependent k cs l r) o h =
-      let make : Row → List Row = λ x. joined k (shapeAt widths ns r .width) (partners o cs (rowsAt widths db ns r (x ∷ o)) x) x in
-      let walk : (Outer → List Visit) → List Visit = λ q. bindings n (λ x. cond (closed (shapeAt widths ns r)) [] (q (x ∷ o))) make (rowsAt widths db ns l o) [] in
-      anew-same a b l o (walk (a r)) (every-head h) ∙ ap (λ (q : Outer → List Visit). anew widths db ns b l o ++ walk q) (every-head (every-tail h))
+  visits-same a b n (select cs i) o h = rw (every-head h)
+  visits-same a b n (compute c i) o h = rw (every-head h)
+  visits-same a b n (project ps i) o h = rw (every-head h)
+  visits-same a b n (group ks gs i) o h = rw (every-head h)
+  visits-same a b n (join k cs l r) o h = rw (every-head h, every-head (every-tail h))
+  visits-same a b n (groupjoin cs gs l r) o h = rw (every-head h, every-head (every-tail h))
+  visits-same a b n (dependent k cs l r) o h = rw (every-head h, every-head (every-tail h))
 
   module _ (n : ℕ) (l : n < length ns) (below : Every (λ j. j < n) (inputs (getD ns n (scan 0)))) where
     -- the rows of a node from those of its inputs
