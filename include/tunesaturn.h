@@ -1,4 +1,4 @@
-/* Tunesaturn: checking, rewriting and evaluating plan tables.
+/* Tunesaturn: checking, rewriting and evaluating plan tables, and keeping them as text.
  *
  * A slice is passed as a pointer and a length. A pointer may be null only where
  * its length is 0. No function keeps a pointer, allocates, or writes to anything
@@ -40,14 +40,24 @@ extern "C" {
 /* No plan table that is accepted has more words. */
 #define TUNESATURN_LONGEST 15560
 
-/* The bytes of stack that each function takes at the deepest plans, measured from
- * outside on x86-64 (tests/stack.c) and rounded up; no proof speaks of them. */
+/* No text has more bytes: enough for every table that passes refusals 1 and 2. */
+#define TUNESATURN_LONGEST_TEXT 170956
+
+/* More bytes than these are not read as a text. */
+#define TUNESATURN_TEXT_LIMIT 262144
+
+/* The bytes of stack that each function takes at the deepest plans and the longest
+ * texts, measured from outside on x86-64 (tests/stack.c) and rounded up; no proof
+ * speaks of them. */
 #define TUNESATURN_CHECK_STACK 8192
 #define TUNESATURN_REWRITE_STACK 278528
 #define TUNESATURN_EVALUATE_STACK 249856
+#define TUNESATURN_WRITE_TEXT_STACK 1024
+#define TUNESATURN_READ_TEXT_STACK 1024
 
 /* number: 0 where the call is accepted, else the number of the refusal;
- * node:   the node that a refusal 3 to 7, 14 or 15 names, else 0;
+ * node:   the node that a refusal 3 to 7, 14 or 15 names, the line that 16 names,
+ *         else 0;
  * count:  what the function says of it, 0 for a refusal. */
 typedef struct {
     uint32_t number;
@@ -109,6 +119,59 @@ tunesaturn_answer tunesaturn_evaluate(const uint32_t *words, size_t length,
                                       uint32_t limit,
                                       int64_t *scratch, size_t scratch_room,
                                       int64_t *out, size_t room);
+
+/* The text of a plan table, for keeping it where words cannot stand:
+ *   line 1     T N I
+ *   line 2     the T table widths
+ *   N lines    the six words of a node each
+ *   I lines    the seven words of an item each
+ * in decimal, with a single space between two numbers and none at either end of a
+ * line. Each line, the last too, is ended by a newline, byte 10; nothing stands
+ * behind the last one, no byte 0 either. A constant, that is the third word of a
+ * term whose first word is 2, is signed: -2147483648 to 2147483647, a minus before
+ * a negative one. Every other number is a word as it is, 0 to 4294967295. There is
+ * no other sign, and no leading zero but in 0 itself.
+ *
+ * Every table that passes refusals 1 and 2 of the check has one text, and every
+ * text is that of one table. Neither function looks at operators, tags or uses:
+ * whether the words form a plan is the check's business. Plan S is
+ *   2 6 3
+ *   1 1
+ *   1 0 0 0 0 0
+ *   1 1 0 0 0 0
+ *   2 1 0 0 0 1
+ *   6 2 0 0 1 1
+ *   8 0 3 1 2 0
+ *   2 4 0 0 2 1
+ *   1 0 0 0 1 0 0
+ *   13 0 0 0 0 0 0
+ *   3 0 0 1 2 0 2 */
+
+/* Writes the text of a plan table of any length with any words. It answers 0, 0
+ * and the number of bytes written, or 1 or 2 exactly where the check does, or
+ *   17  text has less room than the table's text
+ * Where it is accepted, the bytes stand at the front of text and the rest of text
+ * is as it was; TUNESATURN_LONGEST_TEXT bytes are always enough. Where it is
+ * refused, all of text is as it was. The words are only read. */
+tunesaturn_answer tunesaturn_write_text(const uint32_t *words, size_t length,
+                                        uint8_t *text, size_t room);
+
+/* Reads a text, any bytes of any length, back to the words of its plan table, the
+ * header's total and offsets included. It answers 0, 0 and the number of words
+ * written, or
+ *   16  not a text of this form, or T, N, I, a width or another number out of
+ *       range; node is the number of the first line that is bad, from 1. A line
+ *       without its newline is bad. A missing line has the number it would have,
+ *       so no bytes at all give 1; whatever stands behind the last line, even one
+ *       byte, is line 3+N+I. More than TUNESATURN_TEXT_LIMIT bytes give 0.
+ *   17  words has less room than the table; 16 is looked for in the whole text
+ *       before
+ * Where it is accepted, the table stands at the front of words and the rest of
+ * words is as it was; TUNESATURN_LONGEST words are always enough, and
+ * tunesaturn_write_text gives the same text for that table. Where it is refused,
+ * all of words is as it was. The text is only read. */
+tunesaturn_answer tunesaturn_read_text(const uint8_t *text, size_t length,
+                                       uint32_t *words, size_t room);
 
 #ifdef __cplusplus
 }

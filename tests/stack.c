@@ -1,4 +1,4 @@
-/* Prints how much stack each function takes at the deepest plans, measured on a painted stack; fails where that is more than the header says. */
+/* Prints how much stack each function takes at the deepest plans and the longest texts, measured on a painted stack; fails where that is more than the header says. */
 #include <pthread.h>
 #include <stdint.h>
 #include <stdio.h>
@@ -14,6 +14,8 @@ static size_t length;
 static int64_t scratch[NODES * LIMIT * 64], out[LIMIT * 64];
 static const uint32_t counts[1] = {1};
 static const int64_t cells[1] = {1};
+static uint8_t text[TUNESATURN_LONGEST_TEXT];
+static size_t text_length;
 
 /* One table of one column; node 0 scans it, node 1 too, node 2 selects of node 1: local 0 = outer 0,0. Each further node
  * is over the one before: a select, or a dependent semi join of node 0 with it whose conjunct reads the next row outward.
@@ -34,6 +36,19 @@ static void build(int joins) {
     }
 }
 
+/* As many tables, nodes and items as there may be; each term is a long word in place of a code, or the least constant. */
+static void build_longest(int constants) {
+    uint32_t header[8] = {TUNESATURN_LONGEST, 16, 8, NODES, 24, 2000, 24 + NODE * NODES, 0};
+    length = TUNESATURN_LONGEST;
+    memset(words, 0xff, sizeof words);
+    memcpy(words, header, sizeof header);
+    for (uint32_t t = 0; t < 16; t++) words[8 + t] = 64;
+    for (uint32_t at = header[6]; constants && at < length; at += ITEM) {
+        words[at + 1] = words[at + 4] = 2;
+        words[at + 3] = words[at + 6] = 1u << 31;
+    }
+}
+
 static tunesaturn_answer answer;
 static void *check(void *unused) { answer = tunesaturn_check(words, length); return unused; }
 static void *rewrite(void *unused) { answer = tunesaturn_rewrite(words, length, rewritten, TUNESATURN_LONGEST); return unused; }
@@ -41,6 +56,12 @@ static void *evaluate(void *unused) {
     answer = tunesaturn_evaluate(words, length, counts, 1, cells, 1, LIMIT, scratch, NODES * LIMIT, out, LIMIT);
     return unused;
 }
+static void *write_text(void *unused) {
+    answer = tunesaturn_write_text(words, length, text, TUNESATURN_LONGEST_TEXT);
+    text_length = answer.count;
+    return unused;
+}
+static void *read_text(void *unused) { answer = tunesaturn_read_text(text, text_length, rewritten, TUNESATURN_LONGEST); return unused; }
 static void *nothing(void *unused) { return unused; }
 
 /* The bytes of a stack that a call has written to. */
@@ -76,6 +97,12 @@ int main(void) {
         measure("  check", check, 0, TUNESATURN_CHECK_STACK);
         measure("  rewrite", rewrite, 8, TUNESATURN_REWRITE_STACK);
         measure("  evaluate", evaluate, 0, TUNESATURN_EVALUATE_STACK);
+    }
+    for (int constants = 0; constants < 2; constants++) {
+        build_longest(constants);
+        printf("%s:\n", constants ? "the longest text of constants" : "the longest text");
+        measure("  write text", write_text, 0, TUNESATURN_WRITE_TEXT_STACK);
+        measure("  read text", read_text, 0, TUNESATURN_READ_TEXT_STACK);
     }
     return wrong;
 }

@@ -1,9 +1,10 @@
 //! Times of the library, of Rust written by hand, and of SQLite, all in one run on one core.
 use crate::inputs::needed;
 use crate::library;
-use crate::lists::{all, List};
+use crate::lists::{all, scrub_list, List};
 use crate::plan::Plan;
 use crate::rules::rewritten;
+use crate::text_by_hand;
 use std::hint::black_box;
 use std::io::Write;
 use std::process::{Command, Stdio};
@@ -116,6 +117,40 @@ fn head(cells: &[&str]) {
     row(&vec!["-".to_string(); cells.len()]);
 }
 
+/// Writing and reading one table's text, once both are as by hand.
+fn text_row(name: &str, table: &[u32]) {
+    let (mut text, mut words) = (vec![0; 170_956], vec![0; 15_560]);
+    let (mut text_by_hand, mut words_by_hand) = (vec![], vec![]);
+    let bytes = library::write_text(table, &mut text).count as usize;
+    text.truncate(bytes);
+    text_by_hand::write(table, &mut text_by_hand).unwrap();
+    assert!(text == text_by_hand, "{name}: another text than by hand");
+    let count = library::read_text(&text, &mut words).count as usize;
+    text_by_hand::read(&text, &mut words_by_hand).unwrap();
+    assert!(words[..count] == words_by_hand && words_by_hand == table, "{name}: other words than by hand");
+    let write = milliseconds(|| {
+        black_box(library::write_text(black_box(table), &mut text));
+    });
+    let write_by_hand = milliseconds(|| {
+        black_box(text_by_hand::write(black_box(table), &mut text_by_hand)).unwrap();
+    });
+    let read = milliseconds(|| {
+        black_box(library::read_text(black_box(&text), &mut words));
+    });
+    let read_by_hand = milliseconds(|| {
+        black_box(text_by_hand::read(black_box(&text), &mut words_by_hand)).unwrap();
+    });
+    let times = [write, write_by_hand, write / write_by_hand, read, read_by_hand, read / read_by_hand];
+    row(&[vec![name.into(), bytes.to_string()], times.map(|time| shown(Some(time))).to_vec()].concat());
+}
+
+fn texts() {
+    println!("\nTexts: written from words, and read back.\n");
+    head(&["table", "bytes", "write", "by hand", "times by hand", "read", "by hand", "times by hand"]);
+    text_row("S, scrubbed under twice", &scrub_list().plan.words());
+    text_row("the longest text", &text_by_hand::longest());
+}
+
 pub fn bench() {
     println!("Milliseconds, the best of several calls.\n");
     head(&["plan", "nodes", "rewritten", "check", "rewrite"]);
@@ -147,6 +182,7 @@ pub fn bench() {
         let new = rewritten(&list.plan);
         row(&[list.name.into(), shown(evaluated(&list.plan, &list, SMALL, 4096)), shown(evaluated(&new, &list, SMALL, 4096))]);
     }
+    texts();
     if by_sqlite(&all()[0], 1).is_none() {
         println!("\nSQLite is not measured: there is no program sqlite3.");
     }

@@ -8,14 +8,8 @@ const LIMITS: Refusal = (2, 0);
 
 /// The plan that the words stand for, or the refusal.
 pub fn check(words: &[u32]) -> Result<Plan, Refusal> {
-    header(words)?;
+    header_and_limits(words)?;
     let tables = words[1] as usize;
-    if !(1..=16).contains(&words[1]) || !(1..=256).contains(&words[3]) || words[5] > 2000 {
-        return Err(LIMITS);
-    }
-    if words[8..8 + tables].iter().any(|width| !(1..=64).contains(width)) {
-        return Err(LIMITS);
-    }
     let plan = Plan { tables: words[8..8 + tables].to_vec(), nodes: nodes(words)? };
     let uses = uses(&plan);
     let lowest = |number: u32, fault: &dyn Fn(usize) -> bool| match (0..plan.nodes.len()).find(|&n| fault(n)) {
@@ -30,6 +24,18 @@ pub fn check(words: &[u32]) -> Result<Plan, Refusal> {
     let around = around(&plan, &widths, &reads);
     lowest(7, &|n| !columns_exist(&plan.nodes[n], &widths, &around[n]))?;
     Ok(plan)
+}
+
+/// The numbers 1 and 2 alone.
+pub fn header_and_limits(words: &[u32]) -> Result<(), Refusal> {
+    header(words)?;
+    if !(1..=16).contains(&words[1]) || !(1..=256).contains(&words[3]) || words[5] > 2000 {
+        return Err(LIMITS);
+    }
+    if words[8..8 + words[1] as usize].iter().any(|width| !(1..=64).contains(width)) {
+        return Err(LIMITS);
+    }
+    Ok(())
 }
 
 /// "slice under 8 words, or total, an offset or the last header word wrong"; "counts are compared as whole numbers before limits"

@@ -6,10 +6,10 @@ use crate::rows::{cell, evaluate};
 use crate::rules::rewrite;
 
 /// What stands in a buffer before a call.
-const WORD: u32 = 0x5a5a_5a5a;
+pub const WORD: u32 = 0x5a5a_5a5a;
 const CELL: i64 = 0x5a5a_5a5a_5a5a_5a5a;
 
-/// One input of all three entry points.
+/// One input of the check, the rewriter and the evaluator.
 #[derive(Clone, Debug)]
 pub struct Input {
     pub words: Vec<u32>,
@@ -21,18 +21,18 @@ pub struct Input {
     pub out: usize,
 }
 
-fn same<T: PartialEq + std::fmt::Debug>(what: &str, library: T, model: T) -> Result<(), String> {
+pub fn same<T: PartialEq + std::fmt::Debug>(what: &str, library: T, model: T) -> Result<(), String> {
     if library == model {
         return Ok(());
     }
     Err(format!("{what}: the library has {library:?}, the model {model:?}"))
 }
 
-fn accepted(count: usize) -> Answer {
+pub fn accepted(count: usize) -> Answer {
     Answer { number: 0, node: 0, count: count as u64 }
 }
 
-fn refused((number, node): (u32, u32)) -> Answer {
+pub fn refused((number, node): (u32, u32)) -> Answer {
     Answer { number, node, count: 0 }
 }
 

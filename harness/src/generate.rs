@@ -1,6 +1,6 @@
 //! Random plans that the check accepts, damaged ones, and random databases.
 use crate::dice::Dice;
-use crate::plan::{Item, Node, Plan, Term, ANTI, INNER, LEFT_OUTER, SEMI};
+use crate::plan::{header, Item, Node, Plan, Term, ANTI, INNER, LEFT_OUTER, SEMI};
 use crate::rows::{LARGEST, NULL};
 use std::collections::BTreeSet;
 
@@ -229,8 +229,7 @@ pub fn noise(dice: &mut Dice) -> Vec<u32> {
     let body = tables + 6 * nodes + 7 * items;
     let mut words: Vec<u32> = (0..8 + body).map(|_| if dice.chance(90) { dice.below(9) as u32 } else { dice.word() as u32 }).collect();
     if dice.chance(80) {
-        let at = [(8 + body) as u32, tables as u32, 8, nodes as u32, (8 + tables) as u32, items as u32, (8 + tables + 6 * nodes) as u32, 0];
-        words[..8].copy_from_slice(&at);
+        words[..8].copy_from_slice(&header(tables as u32, nodes as u32, items as u32));
     }
     words
 }

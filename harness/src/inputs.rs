@@ -1,4 +1,4 @@
-//! Random inputs of the three entry points.
+//! Random inputs of the check, the rewriter and the evaluator.
 use crate::compare::Input;
 use crate::dice::Dice;
 use crate::generate::{accepted, damaged, database, noise, targeted};

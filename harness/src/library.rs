@@ -25,6 +25,8 @@ extern "C" {
         out: *mut i64,
         room: usize,
     ) -> Answer;
+    fn tunesaturn_write_text(words: *const u32, length: usize, text: *mut u8, room: usize) -> Answer;
+    fn tunesaturn_read_text(text: *const u8, length: usize, words: *mut u32, room: usize) -> Answer;
 }
 
 pub fn check(words: &[u32]) -> Answer {
@@ -51,4 +53,12 @@ pub fn evaluate(words: &[u32], counts: &[u32], cells: &[i64], limit: u32, scratc
             out.len(),
         )
     }
+}
+
+pub fn write_text(words: &[u32], text: &mut [u8]) -> Answer {
+    unsafe { tunesaturn_write_text(words.as_ptr(), words.len(), text.as_mut_ptr(), text.len()) }
+}
+
+pub fn read_text(text: &[u8], words: &mut [u32]) -> Answer {
+    unsafe { tunesaturn_read_text(text.as_ptr(), text.len(), words.as_mut_ptr(), words.len()) }
 }

@@ -1,7 +1,8 @@
-//! Compares the library with a model of document 01, and measures it.
+//! Compares the library with a model of document 01 and of document 02's texts, and measures it.
 mod bench;
 mod check;
 mod compare;
+mod compare_texts;
 mod dice;
 mod generate;
 mod inputs;
@@ -11,6 +12,9 @@ mod plan;
 mod rows;
 mod rules;
 mod shrink;
+mod text;
+mod text_by_hand;
+mod texts;
 
 use compare::{compare, Input};
 use dice::Dice;
@@ -23,14 +27,14 @@ harness bench                 a table of times, beside hand-written Rust and SQL
 
 const PLANS: usize = 200_000;
 
-const FUNCTIONS: [&str; 3] = ["check", "rewrite", "evaluate"];
+const FUNCTIONS: [&str; 5] = ["check", "rewrite", "evaluate", "write text", "read text"];
 
 /// What each entry point answered, by number of refusal.
 #[derive(Default)]
-struct Tally([BTreeMap<u32, usize>; 3]);
+struct Tally([BTreeMap<u32, usize>; 5]);
 
 impl Tally {
-    fn add(&mut self, numbers: [u32; 3]) {
+    fn add(&mut self, numbers: impl Iterator<Item = u32>) {
         for (counts, number) in self.0.iter_mut().zip(numbers) {
             *counts.entry(number).or_default() += 1;
         }
@@ -42,12 +46,12 @@ impl Tally {
         }
     }
 
-    /// The numbers of document 01 that a function never answered, acceptance (0) among them.
+    /// The numbers of documents 01 and 02 that a function never answered, acceptance (0) among them.
     fn unmet(&self) -> Vec<(&str, u32)> {
-        let own = [8..8, 8..10, 10..16];
+        let own = [(0..8, 8..8), (0..8, 8..10), (0..8, 10..16), (0..3, 17..18), (0..1, 16..18)];
         let mut unmet = vec![];
-        for ((name, counts), own) in FUNCTIONS.iter().zip(&self.0).zip(own) {
-            unmet.extend((0..8).chain(own).filter(|number| !counts.contains_key(number)).map(|number| (*name, number)));
+        for ((name, counts), (first, then)) in FUNCTIONS.iter().zip(&self.0).zip(own) {
+            unmet.extend(first.chain(then).filter(|number| !counts.contains_key(number)).map(|number| (*name, number)));
         }
         unmet
     }
@@ -84,15 +88,27 @@ fn report(seed: u64, input: &Input, text: &str) -> ! {
     std::process::exit(1);
 }
 
+fn report_texts(seed: u64, input: &texts::Input, text: &str) -> ! {
+    println!("seed {seed}: {text}");
+    let small = shrink::shrunk_texts(input, |input| compare_texts::compare(input).is_err());
+    println!("the smallest found: {small:?}");
+    println!("its text: {}", small.text.escape_ascii());
+    println!("{}", compare_texts::compare(&small).unwrap_err());
+    std::process::exit(1);
+}
+
 /// Each input has a seed of its own, so that one number brings a failure back.
 fn run(first: u64, goes_on: impl Fn(u64) -> bool) -> Tally {
     let mut tally = Tally::default();
     let mut seed = first;
     while goes_on(seed) {
-        let input = inputs::random(&mut Dice::new(seed));
-        match examine(&input) {
-            Ok(numbers) => tally.add(numbers),
-            Err(text) => report(seed, &input, &text),
+        let mut dice = Dice::new(seed);
+        let input = inputs::random(&mut dice);
+        let texts = texts::random(&mut dice, &input.words);
+        match (examine(&input), compare_texts::compare(&texts)) {
+            (Ok(first), Ok(then)) => tally.add(first.into_iter().chain(then)),
+            (Err(text), _) => report(seed, &input, &text),
+            (_, Err(text)) => report_texts(seed, &texts, &text),
         }
         seed += 1;
     }

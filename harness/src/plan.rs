@@ -118,14 +118,17 @@ impl Node {
     }
 }
 
+/// The header that fits so many tables, nodes and items.
+pub fn header(tables: u32, nodes: u32, items: u32) -> [u32; 8] {
+    let nodes_at = 8 + tables;
+    let items_at = nodes_at + 6 * nodes;
+    [items_at + 7 * items, tables, 8, nodes, nodes_at, items, items_at, 0]
+}
+
 impl Plan {
     pub fn words(&self) -> Vec<u32> {
-        let tables = self.tables.len() as u32;
-        let nodes = self.nodes.len() as u32;
         let items: u32 = self.nodes.iter().map(|node| node.items.len() as u32).sum();
-        let nodes_at = 8 + tables;
-        let items_at = nodes_at + 6 * nodes;
-        let mut words = vec![items_at + 7 * items, tables, 8, nodes, nodes_at, items, items_at, 0];
+        let mut words = header(self.tables.len() as u32, self.nodes.len() as u32, items).to_vec();
         words.extend(&self.tables);
         let mut first = 0;
         for node in &self.nodes {

@@ -1,11 +1,21 @@
 //! A smaller input that still differs.
-use crate::check::check;
+use crate::check::{check, header_and_limits};
 use crate::compare::Input;
 use crate::inputs::needed;
-use crate::plan::Plan;
+use crate::plan::{header, Plan};
+use crate::texts;
 
 /// Takes away as long as what is left still fails.
 pub fn shrunk(input: &Input, fails: impl Fn(&Input) -> bool) -> Input {
+    least(input, smaller, size, fails)
+}
+
+pub fn shrunk_texts(input: &texts::Input, fails: impl Fn(&texts::Input) -> bool) -> texts::Input {
+    let size = |input: &texts::Input| (input.text.len() + input.words.len(), input.words.iter().filter(|&&word| word != 0).count(), input.text_room + input.words_room);
+    least(input, smaller_texts, size, fails)
+}
+
+fn least<T: Clone, S: PartialOrd>(input: &T, smaller: fn(&T) -> Vec<T>, size: impl Fn(&T) -> S, fails: impl Fn(&T) -> bool) -> T {
     let mut best = input.clone();
     loop {
         match smaller(&best).into_iter().find(|candidate| size(candidate) < size(&best) && fails(candidate)) {
@@ -103,6 +113,44 @@ fn fewer_rows(input: &Input, plan: &Plan) -> Vec<Input> {
             }
         }
         from += width * count;
+    }
+    candidates
+}
+
+fn smaller_texts(input: &texts::Input) -> Vec<texts::Input> {
+    let mut candidates = vec![texts::Input { words: vec![], ..input.clone() }, texts::Input { text: vec![], ..input.clone() }];
+    candidates.extend(smaller_words(&input.words).into_iter().map(|words| texts::Input { words, ..input.clone() }));
+    candidates.extend(smaller_text(&input.text).into_iter().map(|text| texts::Input { text, ..input.clone() }));
+    candidates.push(texts::Input { text_room: input.text_room / 2, ..input.clone() });
+    candidates.push(texts::Input { words_room: input.words_room / 2, ..input.clone() });
+    candidates
+}
+
+/// Without the last item, and with a 0 behind the widths.
+fn smaller_words(words: &[u32]) -> Vec<Vec<u32>> {
+    let mut candidates = vec![];
+    if header_and_limits(words).is_ok() && words.len() < 2000 {
+        if words[5] > 0 {
+            let mut less = words[..words.len() - 7].to_vec();
+            less[..8].copy_from_slice(&header(words[1], words[3], words[5] - 1));
+            candidates.push(less);
+        }
+        for place in 8 + words[1] as usize..words.len() {
+            let mut less = words.to_vec();
+            less[place] = 0;
+            candidates.push(less);
+        }
+    }
+    candidates
+}
+
+/// Half of it, and without each line or byte of a short one.
+fn smaller_text(text: &[u8]) -> Vec<Vec<u8>> {
+    let mut candidates = vec![text[..text.len() / 2].to_vec()];
+    if text.len() < 2000 {
+        let lines: Vec<&[u8]> = text.split_inclusive(|&byte| byte == b'\n').collect();
+        candidates.extend((0..lines.len()).map(|k| [&lines[..k], &lines[k + 1..]].concat().concat()));
+        candidates.extend((0..text.len()).map(|k| [&text[..k], &text[k + 1..]].concat()));
     }
     candidates
 }

@@ -1,109 +1,15 @@
 // Reads plan words from standard input, least byte first, rewrites the plan, and prints its nodes.
-use libc::STDOUT_FILENO;
-use plan::Plan;
-use plan::Verdict;
-use plan::widths::work_out_widths;
-use plan::words::item_count;
-use plan::words::items;
-use plan::words::kind;
-use plan::words::left;
-use plan::words::nodes;
-use plan::words::operator;
-use plan::words::right;
-use plan::words::wide;
-use rewrite::Rewritten;
-use rewrite::rewrite;
-
-fn print_number(x: u32) {
-    io::print_decimal(STDOUT_FILENO, x as u64);
-}
-
-fn print_next(x: u32) {
-    io::write_all(STDOUT_FILENO, b" ");
-    print_number(x);
-}
-
-fn end_line() {
-    io::write_all(STDOUT_FILENO, b"\n");
-}
-
-fn print_refused(number: u32, node: u32) {
-    io::write_all(STDOUT_FILENO, b"refused");
-    print_next(number);
-    print_next(node);
-    end_line();
-}
-
-// Number, operator, kind, left, right, item count, width.
-fn print_node(words: &[u32], n: u32, width: u32) {
-    print_number(n);
-    print_next(operator(words, n));
-    print_next(kind(words, n));
-    print_next(left(words, n));
-    print_next(right(words, n));
-    print_next(item_count(words, n));
-    print_next(width);
-    end_line();
-}
-
-// The listing of an accepted plan; the rewriting of one always is.
-fn print_plan(words: &[u32]) {
-    let v = plan::check(words);
-    let Verdict::Accepted = v else {
-        return;
-    };
-    let widths = work_out_widths(words);
-    let rows = widths.rows;
-    io::write_all(STDOUT_FILENO, b"nodes");
-    print_next(nodes(words));
-    io::write_all(STDOUT_FILENO, b" items");
-    print_next(items(words));
-    end_line();
-    let count = nodes(words);
-    let mut n = 0;
-    while n < count {
-        print_node(words, n, rows[wide(n)]);
-        n += 1;
-    }
-}
-
-// The words of the longest plan.
-const LONGEST: usize = 8
-    + Plan::TABLES as usize
-    + 6 * Plan::NODES as usize
-    + 7 * Plan::ITEMS as usize;
-
-// The plan in the first count words.
-fn print_front(out: &[u32], count: usize) {
-    if count <= out.len() {
-        print_plan(&out[..count]);
-    }
-}
-
-fn list(words: &[u32]) {
-    let mut out = [0u32; LONGEST];
-    let answer = rewrite(words, &mut out);
-    match answer {
-        Rewritten::Words(n) => print_front(&out, wide(n)),
-        Rewritten::Refused(r) => print_refused(r.number(), r.node()),
-        Rewritten::OverLimits => print_refused(8, 0),
-        Rewritten::NoRoom => print_refused(9, 0),
-    }
-}
+use programs::Input;
+use programs::Longest;
+use programs::list_front;
+use programs::print_refused;
+use programs::read_words;
 
 fn main() {
-    let mut bytes = io::large_buffer();
-    let count = io::read_full(0, &mut bytes);
-    let mut extra = [0u8; 1];
-    if 0 < libc::read(0, &mut extra) {
-        print_refused(1, 0);
-        return;
+    let mut words = [0u32; Longest::INPUT];
+    let found = read_words(&mut words);
+    match found {
+        Input::Words(count) => list_front(&words, count),
+        Input::NotWords => print_refused(1, 0),
     }
-    if count % 4 != 0 {
-        print_refused(1, 0);
-        return;
-    }
-    let mut words = [0u32; 16384];
-    let found = input::words(&bytes[..count], &mut words);
-    list(&words[..found]);
 }

@@ -1,12 +1,8 @@
 -- The new plan's words in the output.
-use mathlib.Core.List.{List, _∷_, _++_}
+use mathlib.Core.List.{List, _++_}
 use Prim.Native.Nat.{ℕ, _+_, _*_, _≤_}
 use lib.ListN.{length, take, drop}
-use Rattle.plan.specs.Words.{tables}
-
--- "Total is 8+T+6N+7I"
-abbrev pub total : ℕ → ℕ → ℕ → ℕ
-total t n i = 8 + t + 6 * n + 7 * i
+use Rattle.plan.specs.Words.{tables, total, headerOf}
 
 -- n nodes and i items, with the table widths of ws, fit the limits and an output of so much room
 abbrev pub Writable : List ℕ → ℕ → ℕ → ℕ → Type 0
@@ -16,4 +12,4 @@ Writable ws n i room = (8 + tables ws ≤ length ws) × (tables ws ≤ 16) × (n
 unfoldable pub table : List ℕ → ℕ → ℕ → List ℕ → List ℕ → List ℕ
 table ws n i nodes items =
     let t = tables ws in
-    total t n i ∷ t ∷ 8 ∷ n ∷ (8 + t) ∷ i ∷ (8 + t + 6 * n) ∷ 0 ∷ (take t (drop 8 ws) ++ (take (6 * n) nodes ++ take (7 * i) items))
+    headerOf t n i ++ (take t (drop 8 ws) ++ (take (6 * n) nodes ++ take (7 * i) items))

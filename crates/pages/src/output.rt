@@ -9,7 +9,8 @@ ghost use mathlib.Core.Path.{_≡_};
 ghost use mathlib.Core.List.{_++_};
 ghost use lib.ListN.{length, drop};
 ghost use Rattle.plan.specs.Words as spec;
-ghost use Rattle.pages.specs.Output.{total, table, Writable};
+ghost use Rattle.plan.specs.Words.{total};
+ghost use Rattle.pages.specs.Output.{table, Writable};
 
 // How many words a plan with the tables of words and so many nodes and items has.
 pub fn total_words(words: &[u32], c: Cursor) -> usize

@@ -1,11 +1,12 @@
 -- The words that a plan is written as.
 use mathlib.Core.List.{List, [], _∷_, _++_, map}
-use Prim.Native.Nat.{ℕ, _+_, _-_, _*_, _^_, _<_}
+use Prim.Native.Nat.{ℕ, _+_, _-_, _^_, _<_}
 use lib.IntN.{ℤ, pos, negsuc}
 use lib.ListN.{length}
 use Rattle.algebra.specs.Lists.{each, Every}
 use Rattle.algebra.specs.Value.{Test, equal, unequal, less, at-most, more, at-least, same}
 use Rattle.algebra.specs.Plan.{Term, column, outer, constant, nothing, Conjunct, Computation, copy, add, subtract, Aggregate, count, sum, minimum, maximum, Kind, inner, semi, anti, left-outer, Node, scan, select, compute, project, join, group, groupjoin, dependent}
+use Rattle.plan.specs.Words.{headerOf}
 
 -- a constant, "stored modulo 2^32"
 abbrev pub unsigned : ℤ → ℕ
@@ -91,8 +92,7 @@ wordsOf widths ns =
     let T = length widths in
     let N = length ns in
     let I = length (allItems ns) in
-    (8 + T + 6 * N + 7 * I) ∷ T ∷ 8 ∷ N ∷ (8 + T) ∷ I ∷ (8 + T + 6 * N) ∷ 0
-    ∷ (widths ++ (nodeWords 0 ns ++ each (λ w. w) (allItems ns)))
+    headerOf T N I ++ (widths ++ (nodeWords 0 ns ++ each (λ w. w) (allItems ns)))
 
 -- ---- which plans can be written so
 

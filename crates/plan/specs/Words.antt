@@ -1,10 +1,17 @@
 -- "A slice of u32 words: header, table widths, nodes, items, nothing between or behind."
-use mathlib.Core.List.{List, map}
+use mathlib.Core.List.{List, [], _∷_, map}
 use Prim.Native.Nat.{ℕ, _+_, _*_}
 use lib.ListN.{getD}
 use Rattle.algebra.specs.Lists.{upto}
 
+-- "Total is 8+T+6N+7I"
+abbrev pub total : ℕ → ℕ → ℕ → ℕ
+total T N I = 8 + T + 6 * N + 7 * I
+
 -- "Header, 8 words: total words; tables T; offset of widths; nodes N; offset of nodes; items I; offset of items; zero."
+abbrev pub headerOf : ℕ → ℕ → ℕ → List ℕ
+headerOf T N I = total T N I ∷ T ∷ 8 ∷ N ∷ (8 + T) ∷ I ∷ (8 + T + 6 * N) ∷ 0 ∷ []
+
 module _ (ws : List ℕ) where
   -- word i, 0 past the end
   unfoldable pub word : ℕ → ℕ

@@ -1,7 +1,7 @@
 // What the words of a plan table say, and the check of them.
 pub mod words; // each word by its name
 pub mod terms; // a term of an item, decoded
-mod header; // refusals 1 and 2
+pub mod header; // refusals 1 and 2
 pub mod tags; // the items of a node, counted by their tags
 mod items; // the items of a node, by their sorts
 mod malformed; // refusal 3

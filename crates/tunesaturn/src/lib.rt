@@ -5,11 +5,16 @@ use plan::Verdict;
 use plan::check;
 use rewrite::Rewritten;
 use rewrite::rewrite;
+use text::Read;
+use text::Written;
+use text::read_text;
+use text::write_text;
 ghost use mathlib.Core.Path.{_≡_};
 ghost use Rattle.plan.specs.Verdict.{verdict};
 ghost use lib.ListN.{length};
 ghost use Rattle.rewrite.specs.Answer.{rewriting, outputAfter};
 ghost use Rattle.evaluate.specs.Answer as evaluation;
+ghost use Rattle.text.specs.Answers.{writing, textAfter, reading, wordsAfter};
 ghost use Rattle.tunesaturn.specs.Answers.{Says, Gives};
 
 #[repr(C)]
@@ -94,5 +99,42 @@ pub extern "C" fn tunesaturn_evaluate(
         Evaluated::Output => numbered(13, 0),
         Evaluated::TooMany(n) => numbered(14, n),
         Evaluated::OutOfRange(n) => numbered(15, n),
+    }
+}
+
+// The text of a plan table to the front of text; count is the number of bytes.
+#[no_mangle]
+pub extern "C" fn tunesaturn_write_text(words: &[u32], text: &mut [u8]) -> Answer
+    ensures { λ a. ⌜ Gives a (writing (now (words .entry)) (length (now (text .entry)))) ⌝ }
+    ensures { λ _. ⌜ now (text .exit) ≡ textAfter (now (words .entry)) (now (text .entry)) ⌝ }
+{
+    let answer = write_text(words, text);
+    match answer {
+        Written::Bytes(n) => Answer {
+            number: 0,
+            node: 0,
+            count: wide(n),
+        },
+        Written::Header => numbered(1, 0),
+        Written::Limits => numbered(2, 0),
+        Written::NoRoom => numbered(17, 0),
+    }
+}
+
+// The words of a text to the front of words; count is the number of words, node the line that 16 names.
+#[no_mangle]
+pub extern "C" fn tunesaturn_read_text(text: &[u8], words: &mut [u32]) -> Answer
+    ensures { λ a. ⌜ Gives a (reading (now (text .entry)) (length (now (words .entry)))) ⌝ }
+    ensures { λ _. ⌜ now (words .exit) ≡ wordsAfter (now (text .entry)) (now (words .entry)) ⌝ }
+{
+    let answer = read_text(text, words);
+    match answer {
+        Read::Words(n) => Answer {
+            number: 0,
+            node: 0,
+            count: wide(n),
+        },
+        Read::BadLine(line) => numbered(16, line),
+        Read::TooShort => numbered(17, 0),
     }
 }

@@ -6,7 +6,8 @@ use native.Mathlib.Omega.{arith}
 use lib.ListN.{length, take, drop, length-append, length-drop}
 use lib.Seq.{paste, take-at, drop-append-add, drop-drop, length-take-le, take-all}
 use Rattle.plan.specs.Words.{tables}
-use Rattle.pages.specs.Output.{total, table}
+use Rattle.plan.specs.Words.{total}
+use Rattle.pages.specs.Output.{table}
 
 -- the front p of d is written: a part behind it
 behind : (d e p s : List ℕ) (at n : ℕ) → e ≡ p ++ drop at d → length p ≡ at → paste e at s n ≡ (p ++ take n s) ++ drop (at + n) d

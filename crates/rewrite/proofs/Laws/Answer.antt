@@ -33,7 +33,8 @@ use Rattle.pages.specs.declared.page.Cursor.{Cursor}
 use Rattle.rewrite.specs.declared.Rewritten.the-variants.{Words, Refused, OverLimits, NoRoom}
 use Rattle.rewrite.specs.Numbers.{rewritingOf}
 use Rattle.rewrite.specs.Answer.{withinLimits, newPlan, newWords, refusal, rewriting, outputAfter}
-use Rattle.pages.specs.Output.{total, table}
+use Rattle.plan.specs.Words.{total}
+use Rattle.pages.specs.Output.{table}
 use Rattle.pages.specs.Pages.{Fits, Holds, Finished}
 use Rattle.pages.proofs.Laws.Pages.{shape-past}
 

@@ -1,8 +1,8 @@
 use native.Mathlib.Omega.{arith}
 use lib.ListN.{length-take}
 use borrow.Author.Needs.{needs}
-use Rattle.listing.proofs.print_front.Statement.{statement}
-use Rattle.listing.proofs.print_front.Tie as tie
+use Rattle.programs.proofs.print_front.Statement.{statement}
+use Rattle.programs.proofs.print_front.Tie as tie
 
 slice-aggregate-print-plan : tie.Need-slice-aggregate-print-plan
 slice-aggregate-print-plan c =

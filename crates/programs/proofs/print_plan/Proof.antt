@@ -1,9 +1,9 @@
 use borrow.Author.Needs.{needs}
 use Prim.Native.Nat.{_≤_, _-_}
 use native.Mathlib.Omega.{arith}
-use Rattle.listing.proofs.Accepted.{well-formed, few-nodes}
-use Rattle.listing.proofs.print_plan.Statement.{statement}
-use Rattle.listing.proofs.print_plan.Tie as tie
+use Rattle.programs.proofs.Accepted.{well-formed, few-nodes}
+use Rattle.programs.proofs.print_plan.Statement.{statement}
+use Rattle.programs.proofs.print_plan.Tie as tie
 
 abbrev Inv-loop : tie.InvT-loop
 Inv-loop words rows count n₀ n = n ≤ count
