@@ -1,5 +1,5 @@
 // The text form of a plan table: a writer and a reader.
-pub mod form; // how many numbers a line has, and which
+mod form; // how many numbers a line has, and which
 mod bytes; // one byte of a lent slice
 mod numbers; // a number read, and the byte behind it
 mod lines; // a whole text read
