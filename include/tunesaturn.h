@@ -17,7 +17,9 @@
  *   kinds      of 5 and 8: 1 inner  2 semi  3 anti  4 left outer
  *   tags       1 =  2 not =  3 <  4 <=  5 >  6 >=  7 not distinct (conjuncts)
  *              8 copy  9 add  10 subtract  11 key  12 output column
- *              13 count  14 sum  15 min  16 max
+ *              13 count  14 sum  15 min  16 max (of no rows the count is 0; the
+ *              others pass over nulls and are null where there is no number, so that
+ *              a sum of 0 is one of numbers)
  *   terms      0,0,position: a column of the input's row (for conjuncts of 5, 7
  *              and 8 of the left row, then the right; for aggregates of 7 of the
  *              right row); 1,level,position: a column of the left row of the

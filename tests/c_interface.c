@@ -1,4 +1,4 @@
-/* Calls the C interface on plan S, on damaged words, on no words at all, and with too little room; reads every cell that it lends. */
+/* Calls the C interface on plan S, on a list of sums, on damaged words, on no words at all, and with too little room; reads every cell that it lends. */
 #include <stdio.h>
 #include "tunesaturn.h"
 
@@ -7,6 +7,13 @@ static const uint32_t S[67] = {
     1, 0, 0, 0, 0, 0, 1, 1, 0, 0, 0, 0, 2, 1, 0, 0, 0, 1,
     6, 2, 0, 0, 1, 1, 8, 0, 3, 1, 2, 0, 2, 4, 0, 0, 2, 1,
     1, 0, 0, 0, 1, 0, 0, 13, 0, 0, 0, 0, 0, 0, 3, 0, 0, 1, 2, 0, 2};
+
+/* For each drive the sum of its figures (drive, written). */
+static const uint32_t WRITTEN[54] = {
+    54, 2, 8, 5, 10, 2, 40, 0, 1, 2,
+    1, 0, 0, 0, 0, 0, 1, 1, 0, 0, 0, 0, 2, 1, 0, 0, 0, 1,
+    6, 2, 0, 0, 1, 1, 8, 0, 3, 1, 2, 0,
+    1, 0, 0, 0, 1, 0, 0, 14, 0, 0, 1, 0, 0, 0};
 
 static int wrong = 0;
 
@@ -23,6 +30,25 @@ static void fill(int64_t *cells, int count) {
 
 static void all_are(const char *name, const int64_t *cells, int from, int to, int64_t cell) {
     for (int i = from; i < to; i++) if (cells[i] != cell) { printf("%s: cell %d\n", name, i); wrong = 1; }
+}
+
+/* Drive 1 wrote 12, drive 2 wrote 0, drive 3 reported a null, drive 4 nothing at all: as written and rewritten. */
+static void sums_of_nothing(void) {
+    const uint32_t counts[2] = {4, 5};
+    const int64_t cells[14] = {1, 2, 3, 4, 1, 5, 2, 0, 3, TUNESATURN_NULL, 1, 7, 2, TUNESATURN_NULL};
+    const int64_t right[8] = {1, 12, 2, 0, 3, TUNESATURN_NULL, 4, TUNESATURN_NULL};
+    uint32_t rewritten[110];
+    int64_t scratch[8 * 20 * 3], rows[40];
+    tunesaturn_answer made = tunesaturn_rewrite(WRITTEN, 54, rewritten, 110);
+    expect("the sums rewritten", made, 0, 0, 107);
+    const uint32_t *plans[2] = {WRITTEN, rewritten};
+    const size_t lengths[2] = {54, 107};
+    for (int k = 0; k < 2; k++) {
+        fill(rows, 40);
+        expect("sums", tunesaturn_evaluate(plans[k], lengths[k], counts, 2, cells, 14, 20, scratch, 480, rows, 40), 0, 0, 4);
+        for (int i = 0; i < 8; i++) if (rows[i] != right[i]) { printf("sums: cell %d of plan %d\n", i, k); wrong = 1; }
+        all_are("behind the sums", rows, 8, 40, 7);
+    }
 }
 
 int main(void) {
@@ -61,6 +87,7 @@ int main(void) {
     if (rows[0] != 2 || rows[1] != 1 || rows[2] != 3 || rows[3] != 0) { printf("S: wrong rows\n"); wrong = 1; }
     all_are("the rest of the output", rows, 4, 10, 7);
     all_are("scratch", scratch, 0, 40, 0);
+    sums_of_nothing();
     if (!wrong) printf("the C interface answers as it should\n");
     return wrong;
 }

@@ -1,4 +1,4 @@
-"""Evaluations whose answers are written by hand from document 01: its small cases, and every refusal of the evaluator."""
+"""Evaluations whose answers are written by hand from documents 01 and 02: small cases, sums of nothing, and every refusal of the evaluator."""
 import collections
 
 from operators import LARGEST
@@ -44,9 +44,8 @@ SMALL = [
     over_two("P10 by a dependent join", dependent_join(LEFT_OUTER, 0, 1, SAME), [1, 2], [2], [[1, None], [2, 2]]),
     over_two("inner, partners in the right side's order", join(INNER, 0, 1), [2, 1], [5, 4], [[2, 5], [2, 4], [1, 5], [1, 4]]),
     over_two("semi keeps a row once", join(SEMI, 0, 1, SAME), [3, 1, 2, 1], [1, 1, 3], column(3, 1, 1)),
-    over_two("groupjoin counts none as 0", groupjoin(0, 1, SAME, COUNT, sum_of(0), maximum(0)), [1, 9], [1, 1], [[1, 2, 2, 1], [9, 0, 0, None]]),
-    over_one("sum of no numbers", group(0, sum_of(0), maximum(0), COUNT), column(None, None), [[0, None, 2]]),
-    over_one("keys in order of first appearance", group(0, key(0), sum_of(0)), column(2, None, 1, 2, None), [[2, 4], [None, 0], [1, 1]]),
+    over_two("groupjoin counts none as 0", groupjoin(0, 1, SAME, COUNT, sum_of(0), maximum(0)), [1, 9], [1, 1], [[1, 2, 2, 1], [9, 0, None, None]]),
+    over_one("keys in order of first appearance", group(0, key(0), sum_of(0)), column(2, None, 1, 2, None), [[2, 4], [None, None], [1, 1]]),
     over_one("keys only", group(0, key(0)), column(2, None, 2), column(2, None)),
     over_one("a column twice", project(0, output(1), output(0), output(1)), [[1, 2], [None, 3]], [[2, 1, 2], [3, None, 3]], 2),
     over_one("add a null", compute(0, add(local(0), NULL)), column(4), [[4, None]]),
@@ -57,6 +56,44 @@ SMALL = [
 COMPARED = [
     over_one(f"tag {tag}", select(0, item(tag, local(0), constant(1))), column(0, 1, 2, None), column(*kept))
     for tag, kept in [(1, [1]), (2, [0, 2]), (3, [0]), (4, [0, 1]), (5, [2]), (6, [1, 2]), (7, [1])]
+]
+
+# "Null for the sum of no numbers", in groups and groupjoins, "empty or all null".
+ALL_THREE = [sum_of(0), maximum(0), COUNT]
+FIGURES = [[1, 5], [2, 0], [3, None], [1, 7], [2, None], [None, 9]]
+
+
+# For each drive what its figures (drive, written) come to, and what is done with it.
+def written(name, made, rows):
+    nodes = [scan(0), scan(1), select(1, equal(local(0), outer(0, 0))), made, dependent_join(INNER, 0, 3)]
+    return Case(name, [1, 2], nodes, [column(1, 2, 3, 4, None), FIGURES], 30, 0, 0, rows)
+
+
+# Of each drive's sum, those that pass.
+def written_where(name, conjunct, rows):
+    case = written(name, group(2, sum_of(1)), rows)
+    return case._replace(nodes=case.nodes + [select(4, conjunct)])
+
+
+SUMS = [
+    over_one("sum of no rows", group(0, *ALL_THREE), [], [[None, None, 0]]),
+    over_one("sum of a null", group(0, *ALL_THREE), column(None), [[None, None, 1]]),
+    over_one("sum of nulls", group(0, *ALL_THREE), column(None, None), [[None, None, 2]]),
+    over_one("sum of a zero", group(0, *ALL_THREE), column(0), [[0, 0, 1]]),
+    over_one("sum of a zero in front of a null", group(0, *ALL_THREE), column(0, None), [[0, 0, 2]]),
+    over_one("sum of a zero behind a null", group(0, *ALL_THREE), column(None, 0), [[0, 0, 2]]),
+    over_one("numbers that add up to 0", group(0, *ALL_THREE), column(5, None, -5), [[0, 5, 3]]),
+    over_one("sums of a column with numbers and of one without", group(0, sum_of(0), sum_of(1)), [[1, None], [2, None]], [[3, None]], 2),
+    over_one("sums by keys", group(0, key(0), sum_of(1), COUNT), [[1, None], [2, 0], [1, None], [2, None], [3, 4]], [[1, None, 2], [2, 0, 2], [3, 4, 1]], 2),
+    over_one("sums by keys, no rows", group(0, key(0), sum_of(0)), [], []),
+    over_two("groupjoin with partners that are null", groupjoin(0, 1, sum_of(0), COUNT), [1, None], [None, None], [[1, None, 2], [None, None, 2]]),
+    over_two("groupjoin without right rows", groupjoin(0, 1, sum_of(0), COUNT), [1, None], [], [[1, None, 0], [None, None, 0]]),
+    over_two("groupjoin's zero", groupjoin(0, 1, SAME, sum_of(0)), [0, 7], [0, None], [[0, 0], [7, None]]),
+    Case("add to the sum of nothing", [1], [scan(0), group(0, sum_of(0), COUNT), compute(1, add(local(0), local(1)))], [[]], 1, 0, 0, [[None, 0, None]]),
+    written("written, for each drive", group(2, sum_of(1)), [[1, 12], [2, 0], [3, None], [4, None], [None, None]]),
+    written("written, by a keyed group", group(2, key(0), sum_of(1)), [[1, 1, 12], [2, 2, 0], [3, 3, None]]),
+    written_where("wrote 0", equal(local(1), constant(0)), [[2, 0]]),
+    written_where("reported no figure", item(7, local(1), NULL), [[3, None], [4, None], [None, None]]),
 ]
 
 # Columns 63 and 127 of a pair of rows of 64 columns: the row of a semi join is the left one.
@@ -131,6 +168,7 @@ OVER = [
     over_one("a sum out of range", group(0, COUNT, sum_of(0)), LARGE * 2, [])._replace(refusal=15, node=1),
     over_one("a running sum out of range", group(0, sum_of(0)), column(LARGEST, 1, -1), [[LARGEST]]),
     over_two("a groupjoin's sum out of range", groupjoin(0, 1, sum_of(0)), [1], [LARGEST, LARGEST], [])._replace(refusal=15, node=2),
+    over_two("a sum of nothing, then one out of range", groupjoin(0, 1, SAME, sum_of(0)), [7, LARGEST], [LARGEST, LARGEST], [])._replace(refusal=15, node=2),
     over_two("a join over R", join(INNER, 0, 1), [1, 2, 3, 4], [1, 2, 3], [])._replace(refusal=14, node=2),
     over_two("a join at R", join(INNER, 0, 1), [1, 2, 3, 4, 5], [1, 2], [[a, b] for a in [1, 2, 3, 4, 5] for b in [1, 2]]),
     over_two("a dependent join over R", dependent_join(LEFT_OUTER, 0, 1), [1, 2, 3, 4], [1, 2, 3], [])._replace(refusal=14, node=2),
@@ -166,7 +204,7 @@ def as_rewritten(case):
     return case._replace(name=case.name + ", rewritten", nodes=rewritten(case.tables, case.nodes))
 
 
-AS_WRITTEN = SMALL + COMPARED + [WIDE] + NESTED
+AS_WRITTEN = SMALL + SUMS + COMPARED + [WIDE] + NESTED
 CASES = AS_WRITTEN + [as_rewritten(case) for case in AS_WRITTEN] + BEFORE + OVER + MET_FIRST + CHECKED
 
 

@@ -237,9 +237,12 @@ pub fn noise(dice: &mut Dice) -> Vec<u32> {
 /// Row counts and cells of a database.
 pub fn database(dice: &mut Dice, tables: &[u32]) -> (Vec<u32>, Vec<i64>) {
     let most = dice.pick(&[0, 1, 2, 3, 4, 6]);
-    let numbers = if dice.chance(70) { &NUMBERS[..8] } else { &NUMBERS[..] };
+    // Small numbers are often equal, and 0 and 1 make many sums of 0.
+    let numbers = &NUMBERS[..dice.pick(&[2, 8, 8, 8, NUMBERS.len(), NUMBERS.len()])];
     let counts: Vec<u32> = tables.iter().map(|_| dice.between(0, most) as u32).collect();
     let total: u32 = tables.iter().zip(&counts).map(|(width, count)| width * count).sum();
-    let cells = (0..total).map(|_| if dice.chance(20) { NULL } else { dice.pick(numbers) }).collect();
+    // Where most cells are null, many groups have no number.
+    let nulls = dice.pick(&[20, 20, 60]);
+    let cells = (0..total).map(|_| if dice.chance(nulls) { NULL } else { dice.pick(numbers) }).collect();
     (counts, cells)
 }

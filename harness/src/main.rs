@@ -1,4 +1,4 @@
-//! Compares the library with a model of document 01 and of document 02's texts, and measures it.
+//! Compares the library with a model of documents 01 and 02, and measures it.
 mod bench;
 mod check;
 mod compare;

@@ -1,4 +1,5 @@
--- Document 01's small cases P1 to P10, and two more for its errors that look right: plans, databases and the rows they give.
+-- Document 01's small cases P1 to P10, document 02's sums of nothing, and two plans for 01's errors that look right:
+-- plans, databases and the rows they give.
 use mathlib.Core.Path.{_≡_}
 use mathlib.Core.Bool.{Bool, true, false, _&&_}
 use mathlib.Core.List.{List, [], _∷_, _++_, map}
@@ -6,7 +7,7 @@ use Prim.Native.Nat.{ℕ}
 use lib.IntN.{pos, negsuc}
 use Rattle.algebra.specs.Lists.{keep, any}
 use Rattle.algebra.specs.Value.{Value, null, num, Row, sameRow, Test, equal, less, same}
-use Rattle.algebra.specs.Plan.{Term, column, outer, constant, nothing, Conjunct, count, minimum, inner, semi, anti, left-outer, Node, scan, select, compute, project, join, group, groupjoin, dependent}
+use Rattle.algebra.specs.Plan.{Term, column, outer, constant, nothing, Conjunct, count, sum, minimum, inner, semi, anti, left-outer, Node, scan, select, compute, project, join, group, groupjoin, dependent}
 use Rattle.algebra.specs.Meaning.{Database, answer}
 use Rattle.algebra.specs.Rewriting.{rewritten}
 
@@ -86,6 +87,36 @@ smallCases =
     ∷ over (n 1 ∷ null ∷ []) (select (when equal (column 0) nothing ∷ []) 0) []
     ∷ []
 
+-- ---- 02, Two: the sum of no numbers
+
+-- for each drive what it wrote, the sum of its figures (drive, written): the plan and a database
+abbrev pub writtenList : List Value → List Row → List Row → Case
+writtenList drives figures rows = record {
+  widths = 1 ∷ 2 ∷ [];
+  database = single drives ∷ figures ∷ [];
+  plan = scan 0 ∷ scan 1 ∷ select (when equal (column 0) (outer 0 0) ∷ []) 1 ∷ group [] (sum 1 ∷ []) 2 ∷ dependent inner [] 0 3 ∷ [];
+  rows = rows;
+}
+
+abbrev pub sumCases : List Case
+sumCases =
+    -- no rows: the sum is null, the count stays 0
+    over [] (group [] (count ∷ sum 0 ∷ []) 0) ((n 0 ∷ null ∷ []) ∷ [])
+    -- all null
+    ∷ over (null ∷ null ∷ []) (group [] (count ∷ sum 0 ∷ []) 0) ((n 2 ∷ null ∷ []) ∷ [])
+    -- a zero beside a null, and numbers that add up to 0
+    ∷ over (null ∷ n 0 ∷ []) (group [] (count ∷ sum 0 ∷ []) 0) ((n 2 ∷ n 0 ∷ []) ∷ [])
+    ∷ over (n 3 ∷ null ∷ num (negsuc 2) ∷ []) (group [] (sum 0 ∷ []) 0) ((n 0 ∷ []) ∷ [])
+    -- a group with keys
+    ∷ over (null ∷ n 3 ∷ null ∷ []) (group (0 ∷ []) (sum 0 ∷ []) 0) ((null ∷ null ∷ []) ∷ (n 3 ∷ n 3 ∷ []) ∷ [])
+    -- a groupjoin
+    ∷ onEqual (λ cs. groupjoin cs (count ∷ sum 0 ∷ []) 0 1) (n 0 ∷ n 7 ∷ []) (n 0 ∷ []) ((n 0 ∷ n 1 ∷ n 0 ∷ []) ∷ (n 7 ∷ n 0 ∷ null ∷ []) ∷ [])
+    -- "drives that reported no figure at all, beside drives that really wrote 0": drive 3's only figure is null, drive 4 has none
+    ∷ writtenList (n 1 ∷ n 2 ∷ n 3 ∷ n 4 ∷ [])
+    ((n 1 ∷ n 5 ∷ []) ∷ (n 2 ∷ n 0 ∷ []) ∷ (n 3 ∷ null ∷ []) ∷ (n 1 ∷ n 7 ∷ []) ∷ (n 2 ∷ null ∷ []) ∷ [])
+    ((n 1 ∷ n 12 ∷ []) ∷ (n 2 ∷ n 0 ∷ []) ∷ (n 3 ∷ null ∷ []) ∷ (n 4 ∷ null ∷ []) ∷ [])
+    ∷ []
+
 -- ---- two plans over drives, bays and scrubs (drive, bay)
 
 abbrev pub shelf : List (List Value) → List Node → List Row → Case
@@ -110,7 +141,7 @@ shelfCases =
 
 -- the whole table
 abbrev pub cases : List Case
-cases = smallCases ++ shelfCases
+cases = smallCases ++ (sumCases ++ shelfCases)
 
 -- ---- what is asked of it
 

@@ -12,8 +12,7 @@ ghost use mathlib.Core.Bool.{true};
 ghost use mathlib.Core.List.{map, []};
 ghost use Prim.Native.Nat.{_+_, _≤_};
 ghost use lib.ListN.{length, take};
-ghost use Rattle.algebra.specs.Value.{num};
-ghost use Rattle.algebra.specs.Operators.{addUp, better, best, columnOf, aggregated, aggregates};
+ghost use Rattle.algebra.specs.Operators.{summed, better, best, columnOf, aggregated, aggregates};
 ghost use Rattle.plan.specs.Words as spec;
 ghost use Rattle.plan.specs.Items.{aggregateRight, aggregateOf};
 ghost use Rattle.store.specs.Cells.{value, InRange};
@@ -22,25 +21,30 @@ ghost use Rattle.operators.specs.Lent.{Space, space};
 ghost use Rattle.operators.specs.Choice.{There, Ranged, chosen, aggregatesFrom, inOrder, Aggregates, Chosen};
 ghost use Rattle.operators.specs.Made.{Puts};
 
-// The sum of column p; 0 of no numbers.
+// The sum of column p; null of no numbers.
 fn sum_of(rows: &[i64], width: usize, p: usize, found: &[u16], n: usize) -> i64
     requires { ⌜ (n ≤ length (now found)) × (n ≤ 4096) × There (now rows) width (take n (now found))
         × (width ≤ 64) × Ranged (now rows) width (take n (now found)) ⌝ }
-    ensures { λ r. ⌜ value r ≡ num (addUp (columnOf p (chosen (now (rows .entry)) width (take n (now (found .entry)))))) ⌝ }
+    ensures { λ r. ⌜ value r ≡ summed (columnOf p (chosen (now (rows .entry)) width (take n (now (found .entry))))) ⌝ }
 {
-    let mut total: i64 = 0;
     if width <= p {
-        return total;
+        return NULL;
     }
+    let mut total: i64 = 0;
+    let mut some = false;
     let mut i = n;
     while 0 < i {
         i -= 1;
         let x = rows[row_number(found[i]) * width + p];
         if x != NULL {
             total += x;
+            some = true;
         }
     }
-    total
+    if some {
+        return total;
+    }
+    NULL
 }
 
 // The least number of column p, or the greatest; null of no numbers.

@@ -1,5 +1,5 @@
 -- The better of two cells, and the sum and the best of a column, from the last chosen row to the first.
-use mathlib.Core.Path.{_≡_, refl, ap, _∙_}
+use mathlib.Core.Path.{_≡_, refl, sym, ap, _∙_}
 use mathlib.Core.Bool.{Bool, true, false, cond}
 use mathlib.Core.List.{List, [], _∷_}
 use Prim.Native.Nat.{ℕ, zero, suc, _+_, _-_, _*_, _^_, _<_, _≤_}
@@ -11,10 +11,11 @@ use lib.Signed.{ltZ}
 use mir.Syntax.{w64}
 use mir.Val.{SFits, toZ, ofZ}
 use mir.ValLaws.{toZ-ofZ}
-use Rattle.algebra.specs.Lists.{all, Every, done, more}
+use Rattle.algebra.specs.Lists.{any, all, Every, done, more}
 use Rattle.algebra.specs.Value.{Value, null, num, Row}
-use Rattle.algebra.specs.Operators.{better, best, addUp, columnOf}
-use Rattle.algebra.proofs.Lists.Every.{every-head, every-tail, every-map, every-mapped}
+use Rattle.algebra.specs.Operators.{better, best, isNumber, addUp, summed, columnOf}
+use Rattle.algebra.proofs.Lists.Every.{every-head, every-tail, every-map, every-of, every-mapped}
+use Rattle.algebra.proofs.Aggregates.{summed-none, summed-some, sum-of-nothing}
 use Rattle.plan.proofs.Laws.Numbered.{every-all}
 use Rattle.store.specs.Cells.{nullCell, value, inRange}
 use Rattle.operators.specs.Choice.{There, Ranged, rowAt, chosen, inOrder}
@@ -69,11 +70,11 @@ column-entry rows width p (more g t) l (suc i) h = column-entry rows width p t l
 column-length : (rows : List ℤ) (width p : ℕ) (is : List ℕ) → length (columnOf p (chosen rows width is)) ≡ length is
 column-length rows width p is = length-map (chosen rows width is) (λ r. getD r p null) ∙ length-map is (rowAt rows width)
 
--- a column past the width: the sum is 0, and there is no best
-pub sum-past : (rows : List ℤ) (width p : ℕ) (is : List ℕ) → width ≤ p → value (pos 0) ≡ num (addUp (columnOf p (chosen rows width is)))
+-- a column past the width: there is no number, so no sum and no best
+pub sum-past : (rows : List ℤ) (width p : ℕ) (is : List ℕ) → width ≤ p → value nullCell ≡ summed (columnOf p (chosen rows width is))
 unfolding value
-sum-past rows width p [] h = refl
-sum-past rows width p (k ∷ is) h = rw (cell-past rows width k p h) (sum-past rows width p is h)
+sum-past rows width p is h =
+    sym (sum-of-nothing p (chosen rows width is) (every-mapped (rowAt rows width) (every-of (λ k. cell-past rows width k p h) is)))
 
 pub best-past : (rows : List ℤ) (width p : ℕ) (is : List ℕ) (before : Value → Value → Bool) → width ≤ p
     → value nullCell ≡ best before (columnOf p (chosen rows width is))
@@ -97,6 +98,10 @@ column-light p rs e = every-mapped (λ r. getD r p null) (every-map (λ r h. ent
 
 -- ---- one row more, from the last to the first
 
+-- a total and whether there was a number: where the code stands in some values
+abbrev pub Running : ℕ → Bool → List Value → Type 0
+Running t some vs = (t ≡ ofZ w64 (addUp vs)) × (some ≡ any isNumber vs)
+
 module _ (rows : List ℤ) (width p : ℕ) (found : List ℕ) (n : ℕ) (few : n ≤ length found) where
   abbrev vs : List Value
   vs = columnOf p (chosen rows width (take n found))
@@ -108,8 +113,8 @@ module _ (rows : List ℤ) (width p : ℕ) (found : List ℕ) (n : ℕ) (few : n
   none : drop n vs ≡ []
   none = drop-of-length-le vs {i = n} (omega (arith, long))
 
-  pub sum-none : 0 ≡ ofZ w64 (addUp (drop n vs))
-  sum-none = rw none
+  pub sum-none : Running 0 false (drop n vs)
+  sum-none = (rw none, rw none)
 
   pub best-none : (before : Value → Value → Bool) → value nullCell ≡ best before (drop n vs)
   unfolding value
@@ -133,9 +138,9 @@ module _ (rows : List ℤ) (width p : ℕ) (found : List ℕ) (n : ℕ) (few : n
           ∙ rw (q, column-entry rows width p there inside (i - 1) (omega (arith, length-take-le n found few)), getD-take n found (i - 1) 0 l, ← read)
 
       -- a null changes nothing
-      pub sum-null : (t : ℕ) → SFits w64 (getD rows (k * width + p) (pos 0)) → ofZ w64 (getD rows (k * width + p) (pos 0)) ≡ 2 ^ 63
-          → t ≡ ofZ w64 (addUp (drop i vs)) → t ≡ ofZ w64 (addUp (drop (i - 1) vs))
-      sum-null t h z e = rw (next, bits-null h z) e
+      pub sum-null : (t : ℕ) (s : Bool) → SFits w64 (getD rows (k * width + p) (pos 0)) → ofZ w64 (getD rows (k * width + p) (pos 0)) ≡ 2 ^ 63
+          → Running t s (drop i vs) → Running t s (drop (i - 1) vs)
+      sum-null t s h z e = rw (next, bits-null h z) e
 
       module _ (most : n ≤ 4096) (ranged : Ranged rows width (take n found)) (t : ℕ) (h : SFits w64 (getD rows (k * width + p) (pos 0)))
           (f : ofZ w64 (getD rows (k * width + p) (pos 0)) ≡ 2 ^ 63 → ⊥)
@@ -151,20 +156,27 @@ module _ (rows : List ℤ) (width p : ℕ) (found : List ℕ) (n : ℕ) (few : n
         pub sum-add-fits : SFits w64 (toZ w64 t +ℤ toZ w64 (ofZ w64 (getD rows (k * width + p) (pos 0))))
         sum-add-fits = rw sum-step (sum-fits most ranged (i - 1))
 
-        pub sum-turn : ofZ w64 (toZ w64 t +ℤ toZ w64 (ofZ w64 (getD rows (k * width + p) (pos 0)))) ≡ ofZ w64 (addUp (drop (i - 1) vs))
-        sum-turn = ap (ofZ w64) sum-step
+        pub sum-turn : Running (ofZ w64 (toZ w64 t +ℤ toZ w64 (ofZ w64 (getD rows (k * width + p) (pos 0))))) true (drop (i - 1) vs)
+        sum-turn = (ap (ofZ w64) sum-step, rw (next, bits-number f))
 
       pub best-turn : (before : Value → Value → Bool) (r z a : ℤ) → value r ≡ better before (value z) (value a) → z ≡ getD rows (k * width + p) (pos 0)
           → value a ≡ best before (drop i vs) → value r ≡ best before (drop (i - 1) vs)
       best-turn before r z a e q h = e ∙ rw (next, q, h)
 
   module _ (i : ℕ) (end : i ≤ 0) where
-    pub sum-end : (most : n ≤ 4096) (ranged : Ranged rows width (take n found)) (t : ℕ) → t ≡ ofZ w64 (addUp (drop i vs))
-        → value (toZ w64 t) ≡ num (addUp vs)
-    sum-end most ranged t e =
-        let q : i ≡ 0 = omega arith in
-        let r : t ≡ ofZ w64 (addUp vs) = rw q at e in
-        rw (ap (toZ w64) r ∙ toZ-ofZ w64 (addUp vs) (sum-fits most ranged 0)) (small-number (addUp vs) (omega (arith, sum-small most ranged 0)))
+    module _ (t : ℕ) (some : Bool) (e : Running t some (drop i vs)) where
+      whole : Running t some vs
+      whole = let q : i ≡ 0 = omega arith in rw q at e
+
+      pub sum-end : some ≡ true → n ≤ 4096 → Ranged rows width (take n found) → value (toZ w64 t) ≡ summed vs
+      sum-end h most ranged =
+          rw (ap (toZ w64) (whole .0) ∙ toZ-ofZ w64 (addUp vs) (sum-fits most ranged 0))
+          (small-number (addUp vs) (omega (arith, sum-small most ranged 0)) ∙ sym (summed-some vs (sym (whole .1) ∙ h)))
+
+      -- no number was met
+      pub sum-nothing : some ≡ false → value nullCell ≡ summed vs
+      unfolding value
+      sum-nothing h = sym (summed-none vs (sym (whole .1) ∙ h))
 
     pub best-end : {v : Value} (before : Value → Value → Bool) → v ≡ best before (drop i vs) → v ≡ best before vs
     best-end before e = let q : i ≡ 0 = omega arith in rw q at e

@@ -3,21 +3,19 @@ use mathlib.Core.Path.{_≡_}
 use Prim.Native.Nat.{_+_, _-_, _*_, _≤_, _<_}
 use native.Mathlib.Omega.{arith}
 use lib.ListN.{length, take, drop}
-use mir.Syntax.{w64}
-use mir.Val.{ofZ}
-use Rattle.algebra.specs.Operators.{addUp, columnOf}
+use Rattle.algebra.specs.Operators.{columnOf}
 use Rattle.operators.specs.Choice.{chosen}
 use Rattle.operators.proofs.Laws.Choices.{chosen-inside}
-use Rattle.operators.proofs.Laws.Sums.{sum-past, sum-none, sum-add-fits, sum-turn, sum-null, sum-end}
+use Rattle.operators.proofs.Laws.Sums.{Running, sum-past, sum-none, sum-add-fits, sum-turn, sum-null, sum-end, sum-nothing}
 use Rattle.operators.proofs.aggregate.sum_of.Statement.{statement}
 use Rattle.operators.proofs.aggregate.sum_of.Tie as tie
 
 abbrev Inv-loop : tie.InvT-loop
-Inv-loop rows width p found n total₀ i₀ total i =
-    (i ≤ n) × (p < width) × (total ≡ ofZ w64 (addUp (drop i (columnOf p (chosen rows width (take n found))))))
+Inv-loop rows width p found n total₀ some₀ i₀ total some i =
+    (i ≤ n) × (p < width) × Running total some (drop i (columnOf p (chosen rows width (take n found))))
 
 abbrev μ-loop : tie.MeasureT-loop
-μ-loop rows width p found n total₀ i₀ total i = i
+μ-loop rows width p found n total₀ some₀ i₀ total some i = i
 
 -- the row read is within the rows
 inside : (c : tie.After-row-number Inv-loop μ-loop)
@@ -70,7 +68,7 @@ add-total c =
     let l = tested .before .loop in
     sum-add-fits (a .rows .now) (a .width) (a .p) (a .found .now) (a .n) (start .pre .0) (l .i) (start .pre .2) (l .inv .1) (tested .loop-test .taken)
     (l .inv .0) (c .before .before .row-number .ensures) (start .pre .1) (start .pre .4) (l .total) (record { sfits = c .before .x .given })
-    (c .if2 .taken) (l .inv .2)
+    (c .if2 .taken) (l .inv .2 .0)
 
 loop-less : tie.Need-loop-less Inv-loop μ-loop
 loop-less c = search needs
@@ -85,7 +83,7 @@ loop-again c =
       l .inv .1,
       sum-turn (a .rows .now) (a .width) (a .p) (a .found .now) (a .n) (start .pre .0) (l .i) (start .pre .2) (l .inv .1)
           (tested .loop-test .taken) (l .inv .0) (c .before .before .row-number .ensures) (start .pre .1) (start .pre .4) (l .total)
-          (record { sfits = c .before .x .given }) (c .if2 .taken) (l .inv .2),
+          (record { sfits = c .before .x .given }) (c .if2 .taken) (l .inv .2 .0),
     )
 
 loop-less-2 : tie.Need-loop-less-2 Inv-loop μ-loop
@@ -100,18 +98,25 @@ loop-again-2 c =
       omega arith,
       l .inv .1,
       sum-null (a .rows .now) (a .width) (a .p) (a .found .now) (a .n) (start .pre .0) (l .i) (start .pre .2) (l .inv .1)
-          (tested .loop-test .taken) (l .inv .0) (c .before .before .row-number .ensures) (l .total) (record { sfits = c .before .x .given })
-          (c .if2 .left)
-          (l .inv .2),
+          (tested .loop-test .taken) (l .inv .0) (c .before .before .row-number .ensures) (l .total) (l .some)
+          (record { sfits = c .before .x .given }) (c .if2 .left) (l .inv .2),
     )
 
 returns-2 : tie.Need-returns-2 Inv-loop μ-loop
 returns-2 c =
-    let start = c .before .before .before .before in
+    let start = c .before .before .before .before .before in
     let a = start .args in
-    let l = c .before .loop in
-    sum-end (a .rows .now) (a .width) (a .p) (a .found .now) (a .n) (start .pre .0) (l .i) (c .loop-test .left) (start .pre .1) (start .pre .4)
-    (l .total) (l .inv .2)
+    let l = c .before .before .loop in
+    sum-end (a .rows .now) (a .width) (a .p) (a .found .now) (a .n) (start .pre .0) (l .i) (c .before .loop-test .left) (l .total) (l .some) (l .inv .2)
+    (c .if3 .taken) (start .pre .1) (start .pre .4)
+
+returns-3 : tie.Need-returns-3 Inv-loop μ-loop
+returns-3 c =
+    let start = c .before .before .before .before .before in
+    let a = start .args in
+    let l = c .before .before .loop in
+    sum-nothing (a .rows .now) (a .width) (a .p) (a .found .now) (a .n) (start .pre .0) (l .i) (c .before .loop-test .left) (l .total) (l .some)
+    (l .inv .2) (c .if3 .left)
 
 pub sum-of-spec : {M : Type 1} → statement M
 sum-of-spec =
@@ -134,4 +139,5 @@ sum-of-spec =
     loop-again
     loop-less-2
     loop-again-2
-    returns-2)
+    returns-2
+    returns-3)
