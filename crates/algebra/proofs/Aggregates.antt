@@ -1,7 +1,7 @@
 -- The sum that document 02 gives: null exactly where there is no number, and everywhere else the numbers added up.
 use mathlib.Core.Path.{_≡_, refl}
 use mathlib.Core.Bool.{Bool, true, false}
-use mathlib.Core.List.{List, [], _∷_}
+use mathlib.Core.List.{List}
 use Prim.Native.Nat.{ℕ}
 use lib.ListN.{getD}
 use Rattle.algebra.specs.Lists.{any, Every, done, more}
