@@ -55,7 +55,7 @@ module _ {X Y N : Type 0} (a : X) (b : Y) (f : (ℕ → X) → N → X) (g : (�
     (step : (s : ℕ → X) (t : ℕ → Y) → ((i : ℕ) → Q (s i) (t i)) → (n : N) → Q (f s n) (g t n)) where
   lists_related : (xs : List X) (ys : List Y) (ns : List N) → Beside Q xs ys → Beside Q (list_from a f xs ns) (list_from b g ys ns)
   lists_related xs ys [] h = h
-  lists_related xs ys (n ∷ ns) h = lists_related _ _ ns (beside_snoc h (step (λ i. get_or xs i a) (λ i. get_or ys i b) (beside_at a b base h) n))
+  lists_related xs ys (n ∷ ns) h = lists_related (xs ++ (f (λ i. get_or xs i a) n ∷ [])) (ys ++ (g (λ i. get_or ys i b) n ∷ [])) ns (beside_snoc h (step (λ i. get_or xs i a) (λ i. get_or ys i b) (beside_at a b base h) n))
 
   -- what holds of the entries of a node if it holds of those before it holds of all
   pub entries_related : (ns : List N) (i : ℕ) → Q (entry a f ns i) (entry b g ns i)

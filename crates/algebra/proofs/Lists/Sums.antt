@@ -1,5 +1,5 @@
 -- Sums of lists of numbers.
-use mathlib.Core.Path.{◌≡◌, refl, sym}
+use mathlib.Core.Path.{◌≡◌, refl, subst, sym}
 use mathlib.Core.List.{List, [], ◌++◌, ◌∷◌, map}
 use Prim.Native.Nat.{◌*◌, ◌+◌, ◌≤◌, suc, zero, ℕ}
 use native.Mathlib.Nat.{add-suc, add-zero, suc-add, zero-add}
@@ -42,7 +42,9 @@ taken_snoc js i (y ∷ xs) x = omega (arith, taken_snoc js (suc i) xs x)
 taken_one : (i j : ℕ) (xs : List ℕ) → get_or xs j 0 ≤ taken ((i + j) ∷ []) i xs
 taken_one i j [] = omega arith
 taken_one i zero (x ∷ xs) = rw (add-zero, eq-eqb i i refl) (omega arith)
-taken_one i (suc j) (x ∷ xs) = rw (add-suc i j, sym (suc-add i j)) (omega (arith, taken_one (suc i) j xs))
+taken_one i (suc j) (x ∷ xs) =
+    let e : suc i + j ≡ i + suc j = omega arith in
+    subst (λ (k : ℕ). get_or (x ∷ xs) (suc j) 0 ≤ taken (k ∷ []) i (x ∷ xs)) e (omega (arith, taken_one (suc i) j xs))
 
 -- the entries at some places are taken by those places
 pub taken_all : (js xs : List ℕ) → total (map (λ j. get_or xs j 0) js) ≤ taken js 0 xs

@@ -33,7 +33,7 @@ module _ (d : ℕ) (k : Row) (lk : length k ≡ d) (ks : List ℕ) (gs : List Ag
   -- the rows of a group
   group_rows : (K : Row) → map (drop d) (keep (λ x. same_row (k ++ K) (picked keys x)) xs) ≡ keep (λ r. same_row K (picked ks r)) (part d k xs)
   group_rows K =
-      rw (keep_map, keep_keep)
+      rw (keep_map, keep_keep (λ x. same_row K (picked ks (drop d x))) begins xs)
       (ap (map (drop d)) (keep_cong _ (λ x. ((begins x) && (same_row K (picked ks (drop d x))))) (every_map (λ x h. same_key_lem K x h) deep)))
 
   begins_key : (x : Row) → d ≤ length x → begins (picked keys x) ≡ begins x

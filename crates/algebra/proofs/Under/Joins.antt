@@ -110,7 +110,7 @@ module _ (d wl m wr : ℕ) (k : Row) (key : Row → Row) (q t : Row → Row → 
       → part d k (map (λ x. x ++ aggregates (map (move_aggregate (shift m)) gs) (keep (q x) ys)) xs) ≡ map (λ l. l ++ aggregates gs (keep (test l) (right l))) (part d k xs)
   under_groupjoin gs =
       ap (part d k) (map_each _ xs)
-      ∙ under_each d wl k P _ (λ a l. (l ++ aggregates gs (those (a ++ l))) ∷ []) _ front (λ l ll pl. rw (same_partners l ll pl)) wx px
+      ∙ under_each d wl k P (λ x. (x ++ aggregates (map (move_aggregate (shift m)) gs) (keep (q x) ys)) ∷ []) (λ a l. (l ++ aggregates gs (those (a ++ l))) ∷ []) (λ l. (l ++ aggregates gs (keep (test l) (right l))) ∷ []) front (λ l ll pl. rw (same_partners l ll pl)) wx px
       ∙ sym (map_each _ (part d k xs))
     where
       front : (a l : Row) → length a ≡ d → length l ≡ wl

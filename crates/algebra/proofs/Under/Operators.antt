@@ -79,14 +79,14 @@ module _ (D : Domain) (o : Outer) (k : Row) (lk : length k ≡ D.width) where
         → part d k (map f xs) ≡ map h (part d k xs)
     under_map f g h p q =
         ap (part d k) (map_each f xs)
-        ∙ under_each d w k Any _ (λ a r. g a r ∷ []) (λ r. h r ∷ []) (λ a r la lr. rw (p a r la)) (λ r lr t. rw (q r)) wx (every_of (λ x. tt) xs)
+        ∙ under_each d w k Any (λ r. f r ∷ []) (λ a r. g a r ∷ []) (λ r. h r ∷ []) (λ a r la lr. rw (p a r la)) (λ r lr t. rw (q r)) wx (every_of (λ x. tt) xs)
         ∙ sym (map_each h (part d k xs))
 
     pub under_select : (cs : List Conjunct) → Agrees D o k (each conjunct_reads cs)
         → part d k (keep (passes [] (map (move_conjunct D (shift d)) cs)) xs) ≡ keep (passes o cs) (part d k xs)
     under_select cs h =
         ap (part d k) (keep_each _ xs)
-        ∙ under_each d w k Any _ (λ a r. cond (passes [] (map (move_conjunct D (shift d)) cs) (a ++ r)) (r ∷ []) []) (λ r. cond (passes o cs r) (r ∷ []) []) (λ a r la lr. rw map_cond) (λ r lr t. rw (moved cs h r)) wx (every_of (λ x. tt) xs)
+        ∙ under_each d w k Any (λ r. cond (passes [] (map (move_conjunct D (shift d)) cs) r) (r ∷ []) []) (λ a r. cond (passes [] (map (move_conjunct D (shift d)) cs) (a ++ r)) (r ∷ []) []) (λ r. cond (passes o cs r) (r ∷ []) []) (λ a r la lr. rw map_cond) (λ r lr t. rw (moved cs h r)) wx (every_of (λ x. tt) xs)
         ∙ sym (keep_each _ (part d k xs))
 
     pub under_compute : (c : Computation) → Agrees D o k (computation_reads c)
