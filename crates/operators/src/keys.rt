@@ -63,7 +63,7 @@ fn same_key(rows: &[i64], width: usize, positions: &[u32], count: usize, k: usiz
     true
 }
 
-#[derive(Drop)]
+#[derive(Clone, Copy)]
 pub struct Parts {
     pub members: usize,
     pub others: usize,

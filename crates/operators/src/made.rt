@@ -1,5 +1,5 @@
 // What an operator has made of its inputs' rows.
-#[derive(Drop)]
+#[derive(Clone, Copy)]
 pub enum Made {
     Rows(u32),
     TooMany,

@@ -12,7 +12,7 @@ use plan::words::wide;
 // The width in front of a level that is not read: no row is so wide.
 const UNREAD: u32 = Plan::WIDTH + 1;
 
-#[derive(Drop)]
+#[derive(Clone, Copy)]
 pub struct Domain {
     pub node: u32,
     pub width: u32,

@@ -14,7 +14,7 @@ pub type ItemWords = [u32; 7 * Plan::ITEMS as usize];
 // The widest row.
 const WIDEST: usize = Plan::WIDTH as usize;
 
-#[derive(Drop)]
+#[derive(Clone, Copy)]
 pub struct Cursor {
     pub nodes: u32,
     pub items: u32,
@@ -33,7 +33,7 @@ fn too_much(c: Cursor) -> Cursor
 }
 
 // The three words of a term.
-#[derive(Drop)]
+#[derive(Clone, Copy)]
 pub struct Three {
     pub code: u32,
     pub level: u32,
@@ -70,7 +70,7 @@ pub fn push_item(items: &mut ItemWords, c: Cursor, tag: u32, first: Three, secon
 }
 
 // A node's words without its items.
-#[derive(Drop)]
+#[derive(Clone, Copy)]
 pub struct Head {
     pub operator: u32,
     pub left: u32,

@@ -9,7 +9,7 @@ ghost use Rattle.plan.specs.Sorts.{right_of};
 use crate::tags::count_tagged;
 use crate::words::{first_item, item_count, item_word, operator, tag};
 
-#[derive(Drop)]
+#[derive(Clone, Copy)]
 pub enum Sort {
     Conjunct,
     Computation,

@@ -1,4 +1,6 @@
 // What the words of a plan table say, and the check of them.
+#![tactic(auto)]
+
 pub mod words; // each word by its name
 pub mod terms; // a term of an item, decoded
 pub mod header; // refusals 1 and 2
@@ -22,7 +24,7 @@ use uses::{count_uses, first_open_twice, first_unused};
 use widths::work_out_widths;
 
 // The limits of a plan.
-#[derive(Drop)]
+#[derive(Clone, Copy)]
 pub struct Plan;
 
 impl Plan {
@@ -39,7 +41,7 @@ impl Plan {
 pub type PerNode = [u32; Plan::NODES as usize];
 
 // Refusals 1 to 7, each with its node where it has one.
-#[derive(Drop)]
+#[derive(Clone, Copy)]
 pub enum Refusal {
     Header,
     Limits,
@@ -82,7 +84,7 @@ impl Refusal {
     }
 }
 
-#[derive(Drop)]
+#[derive(Clone, Copy)]
 pub enum Verdict {
     Accepted,
     Refused(Refusal),

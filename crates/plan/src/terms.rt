@@ -6,7 +6,7 @@ ghost use Rattle.plan.specs.Terms.{meant};
 
 use crate::words::item_word;
 
-#[derive(Drop)]
+#[derive(Clone, Copy)]
 pub enum Term {
     Local(u32),
     Outer { level: u32, position: u32 },

@@ -11,7 +11,7 @@ use crate::words::{first_item, item_count, kind, left, nodes, operator, right, t
 use crate::{PerNode, Plan};
 
 // The widths of the nodes before the first that is too wide, and how many they are.
-#[derive(Drop)]
+#[derive(Clone, Copy)]
 pub struct Widths {
     pub rows: [u32; 256],
     pub narrow: u32,

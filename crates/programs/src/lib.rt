@@ -5,7 +5,7 @@ use plan::words::{item_count, items, kind, left, nodes, operator, right, wide};
 use plan::{Plan, Verdict};
 use rewrite::{Rewritten, rewrite};
 
-#[derive(Drop)]
+#[derive(Clone, Copy)]
 pub struct Longest;
 
 impl Longest {
@@ -20,7 +20,7 @@ impl Longest {
 }
 
 // How many words stood on standard input; or it was no whole number of them, or too many.
-#[derive(Drop)]
+#[derive(Clone, Copy)]
 pub enum Input {
     Words(usize),
     NotWords,

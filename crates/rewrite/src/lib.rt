@@ -13,7 +13,7 @@ use plan::{Plan, Refusal, Verdict, check};
 use rules::reads::work_out_reads;
 use steps::rewrite_nodes;
 
-#[derive(Drop)]
+#[derive(Clone, Copy)]
 pub enum Rewritten {
     Words(u32),
     Refused(Refusal),

@@ -5,7 +5,7 @@ ghost use Rattle.store.specs.Rows.{source, place_of, row_of, Stands, Input};
 
 use crate::cells::{copy_cells, copy_within};
 
-#[derive(Drop)]
+#[derive(Clone, Copy)]
 pub struct Block {
     pub table: bool,
     pub from: usize,

@@ -8,7 +8,7 @@ use plan::Plan;
 const LARGEST: u32 = 4294967295;
 
 // T, N and I.
-#[derive(Drop)]
+#[derive(Clone, Copy)]
 pub struct Sizes {
     pub tables: u32,
     pub nodes: u32,
@@ -16,7 +16,7 @@ pub struct Sizes {
 }
 
 // Numbers from low to high; in an item's line some are constants.
-#[derive(Drop)]
+#[derive(Clone, Copy)]
 pub struct Form {
     pub count: u32,
     pub low: u32,

@@ -15,7 +15,7 @@ use plan::header::{header_right, limits_right};
 use write::write_table;
 
 // The limits of a text.
-#[derive(Drop)]
+#[derive(Clone, Copy)]
 pub struct Text;
 
 impl Text {
@@ -26,7 +26,7 @@ impl Text {
     pub const LONGEST: usize = 170956;
 }
 
-#[derive(Drop)]
+#[derive(Clone, Copy)]
 pub enum Written {
     Bytes(u32),
     Header,
@@ -34,7 +34,7 @@ pub enum Written {
     NoRoom,
 }
 
-#[derive(Drop)]
+#[derive(Clone, Copy)]
 pub enum Read {
     Words(u32),
     BadLine(u32),

@@ -11,27 +11,27 @@ use plan::Plan;
 use plan::words::wide;
 
 // The place behind a line.
-#[derive(Drop)]
+#[derive(Clone, Copy)]
 pub enum Line {
     Next(usize),
     NoLine,
 }
 
 // The place behind the last line and the place behind the last word, or the number of a line.
-#[derive(Drop)]
+#[derive(Clone, Copy)]
 pub enum Body {
     End(usize, usize),
     BadAt(u32),
 }
 
-#[derive(Drop)]
+#[derive(Clone, Copy)]
 pub enum Head {
     Found(Sizes, usize),
     NoHead,
 }
 
 // How many words, or the number of a line.
-#[derive(Drop)]
+#[derive(Clone, Copy)]
 pub enum Judged {
     Words(usize),
     Bad(u32),

@@ -10,14 +10,14 @@ use crate::bytes::byte;
 const ZERO: u64 = 48;
 
 // A word, and the place behind the byte that ends it.
-#[derive(Drop)]
+#[derive(Clone, Copy)]
 pub enum Field {
     Word(u32, usize),
     NoWord,
 }
 
 // What digits say, and the place behind them.
-#[derive(Drop)]
+#[derive(Clone, Copy)]
 pub struct Digits {
     pub value: u64,
     pub next: usize,

@@ -12,7 +12,7 @@ use rewrite::{Rewritten, rewrite};
 use text::{Read, Written, read_text, write_text};
 
 #[repr(C)]
-#[derive(Drop)]
+#[derive(Clone, Copy)]
 pub struct Answer {
     pub number: u32,
     pub node: u32,

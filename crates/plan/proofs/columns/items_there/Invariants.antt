@@ -1,0 +1,18 @@
+use mathlib.Core.Path.{◌≡◌}
+use mathlib.Core.Bool.{Bool, true}
+use Prim.Native.Nat.{◌≤◌, ◌-◌}
+use native.Mathlib.Omega.{arith}
+use borrow.Author.Rules.{rules}
+use Rattle.algebra.specs.Lists.{all}
+use Rattle.plan.specs.Words.{Item, items_from}
+use Rattle.plan.specs.Verdict.{scope_of}
+use Rattle.plan.specs.Passes.{item_there}
+use Rattle.plan.proofs.Laws.Items.{items_more, items_fail, items_end, items_read}
+use Rattle.plan.proofs.Laws.Columns.{item_place}
+use Rattle.plan.proofs.columns.items_there.Given as goal
+
+abbrev pub invariant-loop-i : goal.invariant-loop-i
+invariant-loop-i l = (l.i ≤ l.count) × (all (item_there (scope_of l.words l.n) l.w l.v) (items_from l.words l.a l.i) ≡ true)
+
+abbrev pub decreases-loop-i : goal.decreases-loop-i
+decreases-loop-i l = l.count - l.i

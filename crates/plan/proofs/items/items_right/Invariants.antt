@@ -1,0 +1,16 @@
+use Rattle.plan.proofs.Laws.Items.{items_more, items_fail, items_end}
+use mathlib.Core.Path.{◌≡◌}
+use mathlib.Core.Bool.{true}
+use Prim.Native.Nat.{◌-◌, ◌≤◌}
+use native.Mathlib.Omega.{arith}
+use borrow.Author.Rules.{rules}
+use Rattle.algebra.specs.Lists.{all}
+use Rattle.plan.specs.Words.{items_from}
+use Rattle.plan.specs.Sorts.{right_of}
+use Rattle.plan.proofs.items.items_right.Given as goal
+
+abbrev pub invariant-loop-i : goal.invariant-loop-i
+invariant-loop-i l = (l.i ≤ l.count) × (all (right_of l.sort) (items_from l.words l.a l.i) ≡ true)
+
+abbrev pub decreases-loop-i : goal.decreases-loop-i
+decreases-loop-i l = l.count - l.i
