@@ -1,3 +1,4 @@
+#![tactic(auto)]
 pub mod outer; // outer rows
 pub mod made; // what an operator answers
 pub mod columns; // output columns

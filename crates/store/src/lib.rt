@@ -1,3 +1,5 @@
+#![tactic(auto)]
+
 pub mod cells; // null, the range of numbers, copies
 pub mod database; // refusal 10, and where the tables stand
 pub mod rows; // the rows of a node, where they stand

@@ -1,4 +1,6 @@
 // The text form of a plan table: a writer and a reader.
+#![tactic(auto)]
+
 mod form; // how many numbers a line has, and which
 mod bytes; // one byte of a lent slice
 mod numbers; // a number read, and the byte behind it

@@ -1,0 +1,15 @@
+use native.Mathlib.Omega.{arith}
+use mathlib.Core.List.{map}
+use Prim.Native.Nat.{◌+◌, ◌-◌, ◌≤◌}
+use Rattle.algebra.specs.Lists.{upto}
+use borrow.Author.Rules.{rules}
+use Rattle.pages.specs.Pages.{Added}
+use Rattle.pages.proofs.Laws.Pages.{added_none}
+use Rattle.pages.proofs.Laws.Writer.{step, locals, local_words, columns_end}
+use Rattle.pages.proofs.writer.columns.Given as goal
+
+abbrev pub invariant-loop-i : goal.invariant-loop-i
+invariant-loop-i l = (l.i ≤ l.count) × Added l.initial.items l.items l.initial.c l.c (map (λ q. locals l.tag (l.from + q) 0) (upto l.i))
+
+abbrev pub decreases-loop-i : goal.decreases-loop-i
+decreases-loop-i l = l.count - l.i

@@ -1,0 +1,19 @@
+use native.Mathlib.Omega.{arith}
+use mathlib.Core.Logic.{⊎_elim}
+use mathlib.Core.Path.{◌≡◌}
+use mathlib.Core.List.{List, map}
+use Prim.Native.Nat.{ℕ, ◌+◌, ◌-◌, ◌≤◌}
+use Rattle.algebra.specs.Lists.{keep, upto}
+use borrow.Author.Rules.{rules}
+use Rattle.pages.specs.Sets.{in_set, rank}
+use Rattle.pages.specs.Pages.{Added}
+use Rattle.pages.proofs.Laws.Pages.{added_none}
+use Rattle.pages.proofs.Laws.Writer.{step_kept, step_left, locals, local_words, local_same, set_matches_end, count_in, count_out}
+use Rattle.pages.proofs.writer.set_matches.Given as goal
+
+abbrev pub invariant-loop-q : goal.invariant-loop-q
+invariant-loop-q l = (l.q ≤ 64) × (l.found ≤ l.q) × (l.found ≡ rank l.set l.q)
+    × Added l.initial.items l.items l.initial.c l.c (map (λ k. locals 7 k (l.behind + rank l.set k)) (keep (in_set l.set) (upto l.q)))
+
+abbrev pub decreases-loop-q : goal.decreases-loop-q
+decreases-loop-q l = 64 - l.q

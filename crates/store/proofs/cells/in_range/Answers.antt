@@ -1,0 +1,12 @@
+use Rattle.store.proofs.Laws.Ranges.{null_ranged, low_ranged, high_ranged}
+use borrow.Author.Rules.{rules}
+use Rattle.store.proofs.cells.in_range.Goals as goal
+
+pub returns-then-x-eq-NULL : goal.returns-then-x-eq-NULL
+returns-then-x-eq-NULL c = null_ranged _ c.ranges.x c.if-x-eq-NULL.true
+
+pub returns-then-x : goal.returns-then-x
+returns-then-x c = low_ranged _ c.ranges.x c.if-x-eq-NULL.false c.if-x.true
+
+pub returns : goal.returns
+returns c = high_ranged _ c.ranges.x c.if-x-eq-NULL.false c.if-x.false

@@ -1,0 +1,6 @@
+use borrow.Author.Rules.{rules}
+use Rattle.store.proofs.Laws.Layouts.{count_read}
+use Rattle.store.proofs.layout.row_count.Goals as goal
+
+pub returns : goal.returns
+returns c = count_read c.args.words.now c.args.layout.now c.wide.ensures c.requires.2
