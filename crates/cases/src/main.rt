@@ -1,8 +1,9 @@
 // Checks the plans of standard input and prints a line for each: its name, the number of refusal and the node, 0 and 0 where it is accepted.
 // A record is a name and a plan's words, each a byte count and that many bytes; counts and words have their least byte first.
-use libc::STDOUT_FILENO;
+#![tactic(auto)]
+
 use plan::Verdict;
-use records::{RECORDS, print_next, read_part};
+use records::{RECORDS, STDOUT_FILENO, print_next, read_part};
 
 fn print_answer(number: u32, node: u32) {
     io::write_all(STDOUT_FILENO, b":");

@@ -1,14 +1,14 @@
 // Evaluates the plans of standard input and prints a line for each: its name, the number of refusal, the node, how many rows were written,
 // the cells of those rows, and whether the rest of the output and scratch are as they should be.
 // A record is a name, the row limit, the cells of scratch and of output, the plan's words, the row counts, and the database cells, two words each.
+#![tactic(auto)]
 ghost use Rattle.std.specs.Prelude.{◌≤◌, ◌≡◌, length, take};
 ghost use Rattle.io.specs.Counts.{IsPrefixLen};
 
 use evaluate::{Evaluated, evaluate};
 use input::least;
-use libc::STDOUT_FILENO;
 use plan::words::wide;
-use records::{RECORDS, print_next, read_number, read_part};
+use records::{RECORDS, STDOUT_FILENO, print_next, read_number, read_part};
 
 // What every cell of scratch and output is before an evaluation.
 const LENT: i64 = 1234567890123456789;

@@ -1,4 +1,6 @@
 // Words from bytes, least byte first.
+#![tactic(auto)]
+
 ghost use Rattle.std.specs.Prelude.{◌≡◌, ◌+◌, ◌*◌, ◌≤◌, ◌<◌, min, length};
 ghost use Rattle.input.specs.Bytes.{word_at, Filled};
 

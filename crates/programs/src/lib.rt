@@ -1,9 +1,12 @@
 // What the programs read and print alike: words from standard input, refusals, listings.
-use libc::STDOUT_FILENO;
+#![tactic(auto)]
 use plan::widths::work_out_widths;
 use plan::words::{item_count, items, kind, left, nodes, operator, right, wide};
 use plan::{Plan, Verdict};
 use rewrite::{Rewritten, rewrite};
+
+// The descriptor of standard output.
+pub const STDOUT_FILENO: i32 = 1;
 
 #[derive(Clone, Copy)]
 pub struct Longest;
@@ -31,7 +34,7 @@ pub fn read_words(words: &mut [u32]) -> Input {
     let mut bytes = io::large_buffer();
     let count = io::read_full(0, &mut bytes);
     let mut extra = [0u8; 1];
-    if 0 < libc::read(0, &mut extra) {
+    if 0 < io::read_full(0, &mut extra) {
         return Input::NotWords;
     }
     if count % 4 != 0 {

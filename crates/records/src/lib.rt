@@ -1,9 +1,13 @@
 // Records of the programs that answer them: a part is a byte count and that many bytes, a number has its least byte first.
+#![tactic(auto)]
+
 ghost use Rattle.std.specs.Prelude.{◌≡◌};
 ghost use Rattle.io.specs.Counts.{IsPrefixLen};
 
 use input::least;
-use libc::STDOUT_FILENO;
+
+// The descriptor of standard output.
+pub const STDOUT_FILENO: i32 = 1;
 
 // At most so many records are read, so that every input ends.
 pub const RECORDS: u32 = 1000;

@@ -2,12 +2,12 @@
 // those words, and whether the output behind them is as it was lent.
 // A record is a name, the words of room in the output, and a plan's words; the name and the plan are each a byte count and that many bytes.
 // Numbers have their least byte first.
+#![tactic(auto)]
 ghost use Rattle.std.specs.Prelude.{◌≤◌, length};
 
 use input::least;
-use libc::STDOUT_FILENO;
 use plan::words::wide;
-use records::{RECORDS, print_next, read_number, read_part};
+use records::{RECORDS, STDOUT_FILENO, print_next, read_number, read_part};
 use rewrite::{Rewritten, rewrite};
 
 // What every word of an output is before a rewriting.

@@ -1,7 +1,7 @@
 // Reads plan words from standard input, least byte first, and prints their text.
-use libc::STDOUT_FILENO;
+#![tactic(auto)]
 use plan::words::wide;
-use programs::{Input, Longest, print_refused, read_words};
+use programs::{Input, Longest, STDOUT_FILENO, print_refused, read_words};
 use text::{Text, Written, write_text};
 
 fn print_front(text: &[u8], count: usize) {
