@@ -1,4 +1,3 @@
-use borrow.Author.Rules.{rules}
 use Rattle.text.proofs.Laws.Places.{read_past}
 use Rattle.text.proofs.bytes.byte.Goals as goal
 

@@ -1,4 +1,3 @@
-use borrow.Author.Rules.{rules}
 use Rattle.text.proofs.Laws.Places.{store_past}
 use Rattle.text.proofs.bytes.put_word.Goals as goal
 

@@ -1,4 +1,3 @@
-use borrow.Author.Rules.{rules}
 use Rattle.text.proofs.Laws.Forms.{last_ends, others_end}
 use Rattle.text.proofs.form.end_of.Goals as goal
 

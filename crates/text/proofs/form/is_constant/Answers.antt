@@ -1,5 +1,4 @@
 use native.Mathlib.Omega.{arith}
-use borrow.Author.Tests.{not-true, not-false}
 use Rattle.text.proofs.Laws.Forms.{no_item, no_constant, first_term, second_term}
 use Rattle.text.proofs.form.is_constant.Goals as goal
 

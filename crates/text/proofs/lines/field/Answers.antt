@@ -1,4 +1,3 @@
-use borrow.Author.Rules.{rules}
 use Rattle.text.proofs.lines.field.Goals as goal
 
 pub returns-then-signed : goal.returns-then-signed

@@ -1,10 +1,7 @@
-use borrow.Author.Rules.{rules}
 use native.Mathlib.Omega.{arith}
-use mathlib.Core.Path.{◌≡◌, refl, ◌∙◌}
-use Prim.Native.Nat.{◌+◌, ◌*◌, ◌-◌, ◌≤◌}
-use lib.ListN.{length}
+use mathlib.Core.Path.{refl, ◌∙◌}
 use Rattle.text.proofs.Laws.Forms.{narrow_form}
-use Rattle.text.proofs.Laws.Stepped.{line_of, no_line_of, BodySoFar, body_start, body_bad, body_more, body_end}
+use Rattle.text.proofs.Laws.Stepped.{line_of, no_line_of, body_start, body_bad, body_more, body_end}
 use Rattle.text.proofs.lines.read_body.Goals as goal
 
 pub loop-k-init : goal.loop-k-init
@@ -14,15 +11,22 @@ loop-k-init c = let a = c.args in
 pub read_line-l-requires : goal.read_line-l-requires
 read_line-l-requires c = let a = c.args in
     let l = c.loop-k in
-    record { at_in_bounds = l.invariant.2; to_bound = omega arith; count_bound = narrow_form a.s c.requires.tables_bound l.k _ c.form_at-form.ensures (omega arith) }
+    record {
+      at_in_bounds = l.invariant.2;
+      to_bound = omega arith;
+      count_bound = narrow_form a.s c.requires.tables_bound l.k _ c.form_at-form.ensures (omega arith);
+    }
 
 pub shape_of-words-in_default : goal.shape_of-words-in_default
-shape_of-words-in_default c = c.read_line-l.auto.1.1.1.0 ∙ c.loop-k.invariant.1
+shape_of-words-in_default c = c.read_line-l.auto.words ∙ c.loop-k.invariant.1
 
 pub returns-in_default : goal.returns-in_default
 returns-in_default c = let a = c.args in
     let l = c.loop-k in
-    body_bad a.text.now a.at a.s a.words.now l.words l.k l.next l.to l.invariant.4 (omega arith) c.form_at-form.result c.form_at-form.ensures (no_line_of a.text.now l.next c.form_at-form.result l.words l.to c.read_line-l.new.words c.read_line-l.ensures c.in_default.is)
+    let f = c.form_at-form in
+    let r = c.read_line-l in
+    body_bad a.text.now a.at a.s a.words.now l.words l.k l.next l.to l.invariant.4 (omega arith) f.result f.ensures
+    (no_line_of a.text.now l.next f.result l.words l.to r.new.words r.ensures c.in_default.is)
 
 pub overflow_add-to : goal.overflow_add-to
 overflow_add-to c = let a = c.args in
@@ -35,8 +39,13 @@ loop-k-preserved c = let a = c.args in
     let l = c.loop-k in
     let f = c.form_at-form in
     let n = narrow_form a.s c.requires.tables_bound l.k _ f.ensures (omega arith) in
-    let r = line_of a.text.now l.next c.form_at-form.result l.words l.to c.read_line-l.new.words c.read_line-l.ensures c.in-Next.is in
-    (omega arith, c.read_line-l.auto.1.1.1.0 ∙ l.invariant.1, r.0, omega (arith, n, c.wide-to.ensures), rw c.wide-to.ensures (body_more a.text.now a.at a.s a.words.now l.words l.k l.next l.to l.invariant.4 (omega arith) f.result f.ensures r))
+    let r = line_of a.text.now l.next c.form_at-form.result l.words l.to c.read_line-l.new.words c.read_line-l.ensures c.in-Next.is in (
+      omega arith,
+      c.read_line-l.auto.words ∙ l.invariant.1,
+      r.0,
+      omega (arith, n, c.wide-to.ensures),
+      rw c.wide-to.ensures (body_more a.text.now a.at a.s a.words.now l.words l.k l.next l.to l.invariant.4 (omega arith) f.result f.ensures r),
+    )
 
 pub shape_of-words : goal.shape_of-words
 shape_of-words c = c.loop-k.invariant.1

@@ -1,9 +1,6 @@
-use borrow.Author.Rules.{rules}
 use native.Mathlib.Omega.{arith}
-use mathlib.Core.Path.{◌≡◌, refl, ◌∙◌}
-use Prim.Native.Nat.{◌-◌}
-use lib.ListN.{length, drop}
-use Rattle.text.specs.Reading.{digits_on}
+use mathlib.Core.Path.{◌∙◌}
+use lib.ListN.{drop}
 use Rattle.plan.proofs.Laws.Header.{between_says}
 use Rattle.text.proofs.Laws.Places.{inside}
 use Rattle.text.proofs.Laws.Digits.{digits_end, digits_more, is_digit, is_none, said, said_over}

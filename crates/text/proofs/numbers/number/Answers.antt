@@ -1,4 +1,3 @@
-use borrow.Author.Rules.{rules}
 use native.Mathlib.Omega.{arith}
 use mathlib.Core.Path.{◌∙◌}
 use lib.ListN.{drop}
@@ -12,7 +11,8 @@ use Rattle.text.proofs.numbers.number.Goals as goal
 pub returns-then-not-is_digit : goal.returns-then-not-is_digit
 returns-then-not-is_digit c = let a = c.args in
     let y = c.byte-b in
-    said_none a.high _ (drop a.at a.text.now) (no_number a.text.now a.at y.result y.ensures (is_none y.result c.is_digit.ensures (ap not c.if-not-is_digit.true))) (omega arith)
+    let h = is_none y.result c.is_digit.ensures (ap not c.if-not-is_digit.true) in
+    said_none a.high _ (drop a.at a.text.now) (no_number a.text.now a.at y.result y.ensures h) (omega arith)
 
 pub overflow_add-result-then-b-eq48 : goal.overflow_add-result-then-b-eq48
 overflow_add-result-then-b-eq48 c = let a = c.args in

@@ -1,9 +1,7 @@
 use native.Mathlib.Omega.{arith}
 use borrow.Author.Rules.{rules}
-use mathlib.Core.Path.{◌≡◌, refl}
-use Prim.Native.Nat.{◌≤◌, ◌+◌, ◌*◌, ◌-◌}
-use lib.ListN.{length}
-use Rattle.text.proofs.Laws.WrittenLines.{Lined, lines_none, lines_room, lines_narrow, lines_more, lines_all}
+use mathlib.Core.Path.{refl}
+use Rattle.text.proofs.Laws.WrittenLines.{lines_none, lines_room, lines_narrow, lines_more, lines_all}
 use Rattle.text.proofs.write.write_body.Goals as goal
 
 pub loop-k-init : goal.loop-k-init
@@ -31,7 +29,7 @@ pub loop-k-preserved : goal.loop-k-preserved
 loop-k-preserved c = let a = c.args in
     let o = c.write_line-next in
     let n = lines_more a.s a.words.now a.text.now a.at c.loop-k.text c.loop-k.k c.loop-k.next c.loop-k.from c.form_at-form.result c.wide.result
-    (omega arith) c.form_at-form.ensures c.wide.ensures c.loop-k.invariant.3 o.new.1.1.0 o.result o.ensures.0 in
+    (omega arith) c.form_at-form.ensures c.wide.ensures c.loop-k.invariant.3 o.new.text o.result o.ensures.written_to in
     (omega arith, omega arith, search rules, n)
 
 pub returns : goal.returns

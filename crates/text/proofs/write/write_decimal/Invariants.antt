@@ -1,9 +1,7 @@
-use native.Mathlib.Omega.{arith}
-use borrow.Author.Rules.{rules}
-use mathlib.Core.Path.{◌≡◌, refl}
-use Prim.Native.Nat.{◌≤◌, ◌+◌, ◌%◌}
+use mathlib.Core.Path.{◌≡◌}
+use Prim.Native.Nat.{◌≤◌}
 use lib.ListN.{length}
-use Rattle.text.proofs.Laws.Writing.{Spelled, spelled_none, spelled_more, spelled_all}
+use Rattle.text.proofs.Laws.Writing.{Spelled}
 use Rattle.text.proofs.write.write_decimal.Given as goal
 
 abbrev pub invariant-loop-k : goal.invariant-loop-k

@@ -1,9 +1,8 @@
 use native.Mathlib.Omega.{arith}
 use borrow.Author.Rules.{rules}
-use mathlib.Core.Path.{◌≡◌, refl}
-use Prim.Native.Nat.{◌≤◌, ◌+◌, ◌*◌, ◌-◌}
-use lib.ListN.{length, get_or}
-use Rattle.text.proofs.Laws.WrittenLines.{Upto, line_none, line_more, line_all}
+use mathlib.Core.Path.{refl}
+use lib.ListN.{get_or}
+use Rattle.text.proofs.Laws.WrittenLines.{line_none, line_more, line_all}
 use Rattle.text.proofs.write.write_line.Goals as goal
 
 pub loop-j-init : goal.loop-j-init

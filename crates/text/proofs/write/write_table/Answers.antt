@@ -1,12 +1,18 @@
 use native.Mathlib.Omega.{arith}
 use Rattle.text.proofs.Laws.WrittenTable.{sizes_few, table_written}
-use borrow.Author.Rules.{rules}
 use Rattle.text.proofs.write.write_table.Goals as goal
 
 pub write_body-requires : goal.write_body-requires
-write_body-requires c = (omega arith, sizes_few c.args.words.now c.requires.words_value c.requires.words_value_2 c.tables.result c.nodes.result c.items.result c.tables.ensures c.nodes.ensures c.items.ensures)
+write_body-requires c = let r = c.requires in
+    let few = sizes_few c.args.words.now r.words_value r.words_value_2 c.tables.result c.nodes.result c.items.result c.tables.ensures
+    c.nodes.ensures c.items.ensures in
+    record { at_bound = omega arith; tables_bound = few.0; nodes_bound = few.1.0; s_bound = few.1.1.0; s_in_bounds = few.1.1.1 }
 
 pub returns : goal.returns
-returns c = let l = c.write_line-next in
+returns c = let a = c.args in
+    let r = c.requires in
+    let l = c.write_line-next in
     let b = c.write_body in
-    record { written_to = table_written c.args.words.now c.requires.words_value c.requires.words_value_2 c.tables.result c.nodes.result c.items.result c.tables.ensures c.nodes.ensures c.items.ensures c.args.text.now l.new.1.1.0 l.result b.new.1.1.0 b.result l.ensures.0 b.ensures.0; upper_bound = omega arith }
+    let all = table_written a.words.now r.words_value r.words_value_2 c.tables.result c.nodes.result c.items.result c.tables.ensures
+    c.nodes.ensures c.items.ensures a.text.now l.new.text l.result b.new.text b.result l.ensures.written_to b.ensures.written_to in
+    record { written_to = all; upper_bound = omega arith }
