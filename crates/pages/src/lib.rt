@@ -1,4 +1,5 @@
 #![tactic(auto)]
+
 pub mod sets; // read columns as a u64 set
 pub mod domain; // a domain, and where an outer column stands in it
 mod words; // words one behind the other

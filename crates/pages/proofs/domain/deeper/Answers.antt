@@ -1,6 +1,5 @@
 use mathlib.Core.Path.{refl}
 use Rattle.pages.proofs.Laws.Domains.{moved}
-use borrow.Author.Rules.{rules}
 use Rattle.pages.proofs.domain.deeper.Goals as goal
 
 pub returns : goal.returns

@@ -1,8 +1,6 @@
-use mathlib.Core.Path.{◌≡◌, ◌∙◌}
-use Prim.Native.Nat.{◌≤◌}
+use mathlib.Core.Path.{◌∙◌}
 use Rattle.pages.proofs.Laws.Domains.{climb_step, climb_end}
 use borrow.Author.Rules.{rules}
-use Rattle.pages.specs.Domains.{climb}
 use Rattle.pages.proofs.domain.place.Goals as goal
 
 pub loop-l-preserved : goal.loop-l-preserved

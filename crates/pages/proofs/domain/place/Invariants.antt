@@ -1,7 +1,5 @@
-use mathlib.Core.Path.{◌≡◌, ◌∙◌}
+use mathlib.Core.Path.{◌≡◌}
 use Prim.Native.Nat.{◌≤◌}
-use Rattle.pages.proofs.Laws.Domains.{climb_step, climb_end}
-use borrow.Author.Rules.{rules}
 use Rattle.pages.specs.Domains.{climb}
 use Rattle.pages.proofs.domain.place.Given as goal
 

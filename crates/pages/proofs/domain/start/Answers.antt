@@ -1,5 +1,4 @@
 use Rattle.pages.proofs.Laws.Domains.{start_read, start_unread}
-use borrow.Author.Rules.{rules}
 use Rattle.pages.proofs.domain.start.Goals as goal
 
 pub returns-then-base-le-WIDTH : goal.returns-then-base-le-WIDTH

@@ -1,6 +1,5 @@
 use native.Mathlib.Omega.{arith}
 use Rattle.pages.proofs.Laws.Output.{all_copied}
-use borrow.Author.Rules.{rules}
 use Rattle.pages.proofs.output.write_table.Goals as goal
 
 pub returns : goal.returns

@@ -1,6 +1,5 @@
 use native.Mathlib.Omega.{arith}
 use Rattle.pages.proofs.Laws.Pages.{row_past}
-use borrow.Author.Rules.{rules}
 use Rattle.pages.proofs.page.row.Goals as goal
 
 pub returns-then-n-rows : goal.returns-then-n-rows

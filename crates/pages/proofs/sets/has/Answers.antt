@@ -1,5 +1,4 @@
 use Rattle.pages.proofs.Laws.Sets.{out_past}
-use borrow.Author.Rules.{rules}
 use Rattle.pages.proofs.sets.has.Goals as goal
 
 pub returns : goal.returns

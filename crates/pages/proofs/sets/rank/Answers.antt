@@ -3,11 +3,10 @@ use Prim.Native.Nat.{ℕ, ◌%◌}
 use native.Mathlib.Omega.{arith}
 use lib.Count.{ones}
 use Rattle.pages.proofs.Laws.Sets.{shifted, shifted_pos, ones_rank, ones_all, rank_le, rank_few}
-use borrow.Author.Rules.{rules}
 use Rattle.pages.proofs.sets.rank.Goals as goal
 
-pub nonzero-rem-result : goal.nonzero-rem-result
-nonzero-rem-result c = shifted_pos _ c.if-position-lt-BITS.true
+pub nonzero_rem-result : goal.nonzero_rem-result
+nonzero_rem-result c = shifted_pos _ c.if-position-lt-BITS.true
 
 pub returns-then-position-lt-BITS : goal.returns-then-position-lt-BITS
 returns-then-position-lt-BITS c = let a = c.args in

@@ -1,7 +1,6 @@
 use mathlib.Core.Path.{ap}
 use lib.Bits.{bit_or}
 use Rattle.pages.proofs.Laws.Sets.{shifted}
-use borrow.Author.Rules.{rules}
 use Rattle.pages.proofs.sets.with.Goals as goal
 
 pub returns : goal.returns

@@ -1,8 +1,7 @@
-use mathlib.Core.Path.{◌≡◌, refl}
-use Prim.Native.Nat.{◌-◌, ◌≤◌}
+use mathlib.Core.Path.{refl}
 use native.Mathlib.Omega.{arith}
-use lib.ListN.{length, length-set}
-use lib.Seq.{paste, paste-zero}
+use lib.ListN.{length-set}
+use lib.Seq.{paste-zero}
 use borrow.Author.Rules.{rules}
 use Rattle.pages.proofs.Laws.Words.{copy_more, copy_all}
 use Rattle.pages.proofs.words.copy_words.Goals as goal

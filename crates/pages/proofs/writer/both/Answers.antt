@@ -1,5 +1,4 @@
 use borrow.Author.Tests.{lt-ltb, le-ltb}
-use borrow.Author.Rules.{rules}
 use Rattle.pages.proofs.writer.both.Goals as goal
 
 pub returns-then-position-width : goal.returns-then-position-width

@@ -1,9 +1,6 @@
 use native.Mathlib.Omega.{arith}
-use mathlib.Core.List.{map}
-use Prim.Native.Nat.{◌+◌, ◌-◌, ◌≤◌}
-use Rattle.algebra.specs.Lists.{upto}
+use Prim.Native.Nat.{◌+◌}
 use borrow.Author.Rules.{rules}
-use Rattle.pages.specs.Pages.{Added}
 use Rattle.pages.proofs.Laws.Pages.{added_none}
 use Rattle.pages.proofs.Laws.Writer.{step, locals, local_words, columns_end}
 use Rattle.pages.proofs.writer.columns.Goals as goal
@@ -13,11 +10,11 @@ loop-i-init c = (search rules, added_none _ _)
 
 pub loop-i-preserved : goal.loop-i-preserved
 loop-i-preserved c = (
-      search rules,
-      step (λ q. locals c.args.tag (c.args.from + q) 0) _ _
-          (local_words _ _ _ _ _ c.local.ensures c.local-in-loop-i.ensures)
-          c.loop-i.invariant.1 c.push_item-c.ensures,
-    )
+  search rules,
+  step (λ q. locals c.args.tag (c.args.from + q) 0) _ _
+      (local_words _ _ _ _ _ c.local.ensures c.local-in-loop-i.ensures)
+      c.loop-i.invariant.1 c.push_item-c.ensures,
+)
 
 pub returns : goal.returns
 returns c = columns_end _ _ c.loop-i.i c.args.count c.loop-i.invariant.1 (omega arith) (omega arith)

@@ -1,11 +1,8 @@
-use native.Mathlib.Omega.{arith}
 use mathlib.Core.List.{map}
 use Prim.Native.Nat.{◌+◌, ◌-◌, ◌≤◌}
 use Rattle.algebra.specs.Lists.{upto}
-use borrow.Author.Rules.{rules}
 use Rattle.pages.specs.Pages.{Added}
-use Rattle.pages.proofs.Laws.Pages.{added_none}
-use Rattle.pages.proofs.Laws.Writer.{step, locals, local_words, columns_end}
+use Rattle.pages.proofs.Laws.Writer.{locals}
 use Rattle.pages.proofs.writer.columns.Given as goal
 
 abbrev pub invariant-loop-i : goal.invariant-loop-i

@@ -1,10 +1,7 @@
 use native.Mathlib.Omega.{arith}
-use mathlib.Core.List.{map}
-use Prim.Native.Nat.{◌+◌, ◌-◌, ◌≤◌}
-use Rattle.algebra.specs.Lists.{upto}
+use Prim.Native.Nat.{◌+◌}
 use borrow.Author.Rules.{rules}
 use Rattle.plan.specs.Words.{item_at}
-use Rattle.pages.specs.Pages.{Added}
 use Rattle.pages.specs.Items.{item_words}
 use Rattle.pages.proofs.Laws.Pages.{added_none}
 use Rattle.pages.proofs.Laws.Writer.{step, copied_words, copied_end}
@@ -15,11 +12,11 @@ loop-i-init c = (search rules, added_none _ _)
 
 pub loop-i-preserved : goal.loop-i-preserved
 loop-i-preserved c = let s = c.args in (
-      search rules,
-      step (λ k. item_words (item_at s.words.now (s.from + k))) c.loop-i.i _
-          (copied_words s.words.now _ _ _ _ c.tag.ensures c.three.ensures c.three-in-loop-i.ensures)
-          c.loop-i.invariant.1 c.push_item-c.ensures,
-    )
+  search rules,
+  step (λ k. item_words (item_at s.words.now (s.from + k))) c.loop-i.i _
+      (copied_words s.words.now _ _ _ _ c.tag.ensures c.three.ensures c.three-in-loop-i.ensures)
+      c.loop-i.invariant.1 c.push_item-c.ensures,
+)
 
 pub returns : goal.returns
 returns c = let a = c.args in

@@ -1,13 +1,9 @@
-use native.Mathlib.Omega.{arith}
 use mathlib.Core.List.{map}
 use Prim.Native.Nat.{◌+◌, ◌-◌, ◌≤◌}
 use Rattle.algebra.specs.Lists.{upto}
-use borrow.Author.Rules.{rules}
 use Rattle.plan.specs.Words.{item_at}
 use Rattle.pages.specs.Pages.{Added}
 use Rattle.pages.specs.Items.{item_words}
-use Rattle.pages.proofs.Laws.Pages.{added_none}
-use Rattle.pages.proofs.Laws.Writer.{step, copied_words, copied_end}
 use Rattle.pages.proofs.writer.copied.Given as goal
 
 abbrev pub invariant-loop-i : goal.invariant-loop-i

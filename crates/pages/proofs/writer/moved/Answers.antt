@@ -1,13 +1,9 @@
 use mathlib.Core.Path.{refl}
-use mathlib.Core.List.{map}
-use Prim.Native.Nat.{◌+◌, ◌-◌, ◌≤◌}
+use Prim.Native.Nat.{◌+◌}
 use native.Mathlib.Omega.{arith}
 use borrow.Author.Rules.{rules}
-use Rattle.algebra.specs.Lists.{upto}
 use Rattle.algebra.specs.Domains as algebra
 use Rattle.plan.specs.Words.{item_at}
-use Rattle.pages.specs.Domains.{Means}
-use Rattle.pages.specs.Pages.{Added}
 use Rattle.pages.specs.Items.{moved_words}
 use Rattle.pages.proofs.Laws.Pages.{added_none}
 use Rattle.pages.proofs.Laws.Writer.{step}
@@ -23,13 +19,13 @@ moved_item-c-requires c = let movable = c.requires.3 c.loop-i.i c.loop-i-test.tr
 
 pub loop-i-preserved : goal.loop-i-preserved
 loop-i-preserved c = let s = c.args in (
-      search rules,
-      λ D m.
-          step (λ k. moved_words D (algebra.shift_both s.width s.front s.between) (item_at s.words.now (s.from + k))) c.loop-i.i _ refl
-          (c.loop-i.invariant.1 D m) (c.moved_item-c.ensures D m),
-    )
+  search rules,
+  λ D m.
+      step (λ k. moved_words D (algebra.shift_both s.width s.front s.between) (item_at s.words.now (s.from + k))) c.loop-i.i _ refl
+      (c.loop-i.invariant.1 D m) (c.moved_item-c.ensures D m),
+)
 
 pub returns : goal.returns
-returns c = let s = c.args in
+returns c D m = let s = c.args in
     moved_end D (algebra.shift_both s.width s.front s.between) s.words.now s.from c.loop-i.i s.count
     (c.loop-i.invariant.1 D m) (omega arith) (omega arith)

@@ -3,7 +3,6 @@ use mathlib.Core.Path.{◌∙◌}
 use Rattle.plan.specs.Words.{item_at, three_at}
 use Rattle.algebra.specs.Domains.{shift_both}
 use Rattle.pages.proofs.Laws.MovedItems.{term_near, term_stands, moved_copy, moved_both, added_item}
-use borrow.Author.Rules.{rules}
 use Rattle.pages.proofs.writer.moved_item.Goals as goal
 
 pub moved_term-first-requires : goal.moved_term-first-requires
@@ -16,7 +15,7 @@ moved_term-first-requires c = let t = three_at c.args.words.now c.args.j 1 in
     )
 
 pub returns-then-t-eq8 : goal.returns-then-t-eq8
-returns-then-t-eq8 c = let s = c.args in
+returns-then-t-eq8 c D m = let s = c.args in
     added_item _ _
     (moved_copy D (shift_both s.width s.front s.between) (item_at s.words.now s.j) _ _ _ c.tag-t.ensures
     (rw c.first_term.ensures at (c.moved_term-first.ensures D m)) c.if-t-eq8.true c.local.ensures)
@@ -28,11 +27,11 @@ moved_term-second-requires c = let t = three_at c.args.words.now c.args.j 4 in
       c.requires.0,
       c.requires.1,
       term_near t second.0 c.second_term.ensures second.1,
-      term_stands t second.0 c.second_term.ensures c.three-stands-2.result c.three-stands-2.ensures (omega (arith, c.three-stands-2.type-inv)),
+      term_stands t second.0 c.second_term.ensures c.three-stands-2.result c.three-stands-2.ensures (omega (arith, c.three-stands-2.type_inv)),
     )
 
 pub returns : goal.returns
-returns c = let s = c.args in
+returns c D m = let s = c.args in
     added_item _ _
     (moved_both D (shift_both s.width s.front s.between) (item_at s.words.now s.j) _ _ _ c.tag-t.ensures
     (rw c.first_term.ensures at (c.moved_term-first.ensures D m)) c.if-t-eq8.false

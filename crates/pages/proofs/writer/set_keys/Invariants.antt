@@ -1,13 +1,9 @@
-use native.Mathlib.Omega.{arith}
-use mathlib.Core.Logic.{⊎_elim}
 use mathlib.Core.List.{map}
 use Prim.Native.Nat.{◌-◌, ◌≤◌}
 use Rattle.algebra.specs.Lists.{keep, upto}
-use borrow.Author.Rules.{rules}
 use Rattle.pages.specs.Sets.{in_set}
 use Rattle.pages.specs.Pages.{Added}
-use Rattle.pages.proofs.Laws.Pages.{added_none}
-use Rattle.pages.proofs.Laws.Writer.{step_kept, step_left, locals, local_words, keys_end}
+use Rattle.pages.proofs.Laws.Writer.{locals}
 use Rattle.pages.proofs.writer.set_keys.Given as goal
 
 abbrev pub invariant-loop-q : goal.invariant-loop-q

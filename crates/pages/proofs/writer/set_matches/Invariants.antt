@@ -1,14 +1,10 @@
-use native.Mathlib.Omega.{arith}
-use mathlib.Core.Logic.{⊎_elim}
 use mathlib.Core.Path.{◌≡◌}
-use mathlib.Core.List.{List, map}
-use Prim.Native.Nat.{ℕ, ◌+◌, ◌-◌, ◌≤◌}
+use mathlib.Core.List.{map}
+use Prim.Native.Nat.{◌+◌, ◌-◌, ◌≤◌}
 use Rattle.algebra.specs.Lists.{keep, upto}
-use borrow.Author.Rules.{rules}
 use Rattle.pages.specs.Sets.{in_set, rank}
 use Rattle.pages.specs.Pages.{Added}
-use Rattle.pages.proofs.Laws.Pages.{added_none}
-use Rattle.pages.proofs.Laws.Writer.{step_kept, step_left, locals, local_words, local_same, set_matches_end, count_in, count_out}
+use Rattle.pages.proofs.Laws.Writer.{locals}
 use Rattle.pages.proofs.writer.set_matches.Given as goal
 
 abbrev pub invariant-loop-q : goal.invariant-loop-q

@@ -1,14 +1,9 @@
-use native.Mathlib.Omega.{arith}
-use mathlib.Core.Logic.{⊎_elim}
 use mathlib.Core.List.{map}
 use Prim.Native.Nat.{◌+◌, ◌-◌, ◌≤◌}
 use Rattle.algebra.specs.Lists.{upto}
-use borrow.Author.Rules.{rules}
 use Rattle.plan.specs.Words.{item_at}
 use Rattle.pages.specs.Pages.{Added}
 use Rattle.pages.specs.Items.{shifted_words}
-use Rattle.pages.proofs.Laws.Pages.{added_none}
-use Rattle.pages.proofs.Laws.Writer.{step, column_moved, column_none, shifted_words_lem, shifted_end}
 use Rattle.pages.proofs.writer.shifted.Given as goal
 
 abbrev pub invariant-loop-i : goal.invariant-loop-i
