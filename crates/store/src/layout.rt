@@ -1,5 +1,5 @@
 // Three words for each node: its width, its reach, and where its rows begin. Then one for each table: how many rows it has.
-ghost use Rattle.std.specs.Prelude.{◌≡◌, true, List, ℕ, ◌*◌, ◌<◌, ◌≤◌, leb, length, get_or, take, drop};
+ghost use Rattle.std.specs.Prelude.{◌≡◌, true, ◌*◌, ◌<◌, ◌≤◌, leb, length, get_or, take, drop};
 ghost use Rattle.algebra.specs.Lists.{all};
 ghost use Rattle.plan.specs.Words as spec;
 ghost use Rattle.plan.specs.Verdict.{is_open};
@@ -34,12 +34,10 @@ pub fn widest_row(words: &[u32], widths: &PerNode) -> u32
 
 // Where the rows of node n begin; area is what each node has of scratch.
 fn start(words: &[u32], counts: &[u32], area: u32, n: u32) -> u32
-    ghost ws: { List ℕ }
-    requires words_value { words.now ≡ ws }
-    requires accepted { Accepted ws × (n < spec.nodes ws) × (length counts.now ≡ spec.tables ws) × (all (λ c. leb c 4096) counts.now ≡ true)
-        × (area ≤ 262144) }
-    ensures { (spec.operator ws n ≡ 1 → result ≡ table_start ws counts.now (spec.left ws n))
-        × ((spec.operator ws n ≡ 1 → ⊥) → result ≡ n * area) }
+    requires { Accepted words.now × (n < spec.nodes words.now) × (length counts.now ≡ spec.tables words.now)
+        × (all (λ c. leb c 4096) counts.now ≡ true) × (area ≤ 262144) }
+    ensures { (spec.operator words.now n ≡ 1 → result ≡ table_start words.now counts.now (spec.left words.now n))
+        × ((spec.operator words.now n ≡ 1 → ⊥) → result ≡ n * area) }
 {
     if operator(words, n) == 1 {
         return table_start(words, counts, left(words, n)) as u32;

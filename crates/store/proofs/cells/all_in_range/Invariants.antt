@@ -1,15 +1,9 @@
 use mathlib.Core.Bool.{true}
-use mathlib.Core.Path.{◌≡◌, refl}
+use mathlib.Core.Path.{◌≡◌}
 use Prim.Native.Nat.{◌-◌, ◌≤◌}
-use native.Mathlib.Omega.{arith}
 use lib.ListN.{length, take}
-use lib.IntN.{pos}
-use mir.Syntax.{w64}
-use mir.ValLaws.{to_z-of_z}
 use Rattle.algebra.specs.Lists.{all}
 use Rattle.store.specs.Cells.{value, in_range}
-use Rattle.store.proofs.Laws.Ranges.{one_fails, one_passes, front_whole}
-use borrow.Author.Rules.{rules}
 use Rattle.store.proofs.cells.all_in_range.Given as goal
 
 abbrev pub invariant-loop-i : goal.invariant-loop-i

@@ -1,7 +1,6 @@
 use mathlib.Core.Path.{◌∙◌}
 use lib.IntN.{pos}
 use Rattle.store.proofs.Laws.Written.{filled_whole}
-use borrow.Author.Rules.{rules}
 use Rattle.store.proofs.cells.clear.Goals as goal
 
 pub returns : goal.returns

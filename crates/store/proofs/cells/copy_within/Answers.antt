@@ -1,10 +1,10 @@
-use mathlib.Core.Path.{◌≡◌, refl, ◌∙◌, sym}
-use Prim.Native.Nat.{◌+◌, ◌-◌, ◌≤◌}
+use mathlib.Core.Path.{refl, ◌∙◌, sym}
+use Prim.Native.Nat.{◌+◌}
 use native.Mathlib.Omega.{arith}
-use lib.ListN.{length, length-set}
+use lib.ListN.{length-set}
 use mir.Syntax.{w64}
 use mir.ValLaws.{to_z-of_z}
-use Rattle.store.proofs.Laws.Written.{Copied, copied_more, copied_all, copied_before}
+use Rattle.store.proofs.Laws.Written.{copied_more, copied_all, copied_before}
 use Rattle.store.proofs.Laws.Cells.{written_nothing}
 use borrow.Author.Rules.{rules}
 use Rattle.store.proofs.cells.copy_within.Goals as goal
@@ -19,7 +19,7 @@ loop-i-preserved c = let a = c.args in
       simp length-set l.invariant.1,
       copied_more a.s.now a.at a.s.now a.to l.i l.s (omega arith) (omega arith)
           l.invariant.2 _
-          (to_z-of_z w64 _ (record { sfits = c.s-1.given }) ∙ copied_before a.s.now a.at a.s.now a.to l.i l.s (a.at + l.i)
+          (to_z-of_z w64 _ (search rules) ∙ copied_before a.s.now a.at a.s.now a.to l.i l.s (a.at + l.i)
           l.invariant.2 (omega arith) (omega arith)),
     )
 

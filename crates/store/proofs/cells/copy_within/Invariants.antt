@@ -1,12 +1,7 @@
-use mathlib.Core.Path.{◌≡◌, refl, ◌∙◌, sym}
-use Prim.Native.Nat.{◌+◌, ◌-◌, ◌≤◌}
-use native.Mathlib.Omega.{arith}
-use lib.ListN.{length, length-set}
-use mir.Syntax.{w64}
-use mir.ValLaws.{to_z-of_z}
-use Rattle.store.proofs.Laws.Written.{Copied, copied_more, copied_all, copied_before}
-use Rattle.store.proofs.Laws.Cells.{written_nothing}
-use borrow.Author.Rules.{rules}
+use mathlib.Core.Path.{◌≡◌}
+use Prim.Native.Nat.{◌-◌, ◌≤◌}
+use lib.ListN.{length}
+use Rattle.store.proofs.Laws.Written.{Copied}
 use Rattle.store.proofs.cells.copy_within.Given as goal
 
 abbrev pub invariant-loop-i : goal.invariant-loop-i

@@ -1,31 +1,34 @@
-use mathlib.Core.Path.{◌≡◌, refl, sym, ap, ◌∙◌}
-use Prim.Native.Nat.{◌-◌, ◌≤◌}
+use mathlib.Core.Path.{refl, sym, ap, ◌∙◌}
 use native.Mathlib.Omega.{arith}
 use lib.IntN.{ℤ}
+use lib.ListN.{replicate, length-set}
 use mir.Syntax.{w64}
 use mir.Val.{to_z, of_z}
 use mir.ValLaws.{to_z-of_z}
-use lib.ListN.{length, replicate, length-set}
+use borrow.Author.Rules.{rules}
 use Rattle.store.specs.Cells.{written}
 use Rattle.store.proofs.Laws.Written.{filled_more, filled_all}
 use Rattle.store.proofs.Laws.Cells.{written_nothing}
-use borrow.Author.Rules.{rules}
 use Rattle.store.proofs.cells.fill.Goals as goal
 
 pub loop-i-init : goal.loop-i-init
 loop-i-init c = (search rules, refl, sym (written_nothing _ c.args.to))
 
 pub loop-i-preserved : goal.loop-i-preserved
-loop-i-preserved c = let a = c.args in
-    let l = c.loop-i in
-    (omega arith, simp length-set l.invariant.1, filled_more a.s.now a.to l.i (to_z w64 (of_z w64 a.x)) l.s (omega arith) l.invariant.2)
+loop-i-preserved c =
+    let a = c.args in
+    let l = c.loop-i in (
+      omega arith,
+      simp length-set l.invariant.1,
+      filled_more a.s.now a.to l.i (to_z w64 (of_z w64 a.x)) l.s (omega arith) l.invariant.2,
+    )
 
 pub shape_of-s : goal.shape_of-s
 shape_of-s c = c.loop-i.invariant.1
 
 pub returns : goal.returns
-returns c = let a = c.args in
+returns c =
+    let a = c.args in
     let l = c.loop-i in
-    let e = to_z-of_z w64 a.x (record { sfits = c.well_formed.1.1.1.0 }) in
     filled_all a.s.now a.to l.i a.count (to_z w64 (of_z w64 a.x)) l.s c.loop-i-test.false l.invariant.0 l.invariant.2
-    ∙ ap (λ (x : ℤ). written a.s.now a.to (replicate a.count x)) e
+    ∙ ap (λ (x : ℤ). written a.s.now a.to (replicate a.count x)) (to_z-of_z w64 a.x c.ranges.x)

@@ -1,5 +1,4 @@
 use Rattle.store.proofs.Laws.Ranges.{null_ranged, low_ranged, high_ranged}
-use borrow.Author.Rules.{rules}
 use Rattle.store.proofs.cells.in_range.Goals as goal
 
 pub returns-then-x-eq-NULL : goal.returns-then-x-eq-NULL

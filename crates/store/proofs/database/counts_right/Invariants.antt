@@ -1,13 +1,9 @@
 use mathlib.Core.Path.{◌≡◌}
 use mathlib.Core.Bool.{true}
 use Prim.Native.Nat.{◌-◌, ◌≤◌}
-use native.Mathlib.Omega.{arith}
 use lib.Dec.{leb}
 use lib.ListN.{length, take}
-use borrow.Author.Tests.{le-leb, lt-leb}
 use Rattle.algebra.specs.Lists.{all}
-use Rattle.store.proofs.Laws.Ranges.{front_more, front_fails, front_whole}
-use borrow.Author.Rules.{rules}
 use Rattle.store.proofs.database.counts_right.Given as goal
 
 abbrev pub invariant-loop-i : goal.invariant-loop-i

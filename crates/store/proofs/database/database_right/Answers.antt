@@ -1,7 +1,5 @@
 use mathlib.Core.Path.{sym, ◌∙◌}
 use native.Mathlib.Omega.{arith}
-use borrow.Author.Tests.{not-false}
-use borrow.Author.Rules.{rules}
 use Rattle.store.proofs.Laws.Tables.{counts_wrong, counts_high, cells_wrong, cells_decide}
 use mathlib.Core.Path.{ap}
 use mathlib.Core.Bool.{not}

@@ -1,8 +1,4 @@
-use mathlib.Core.Path.{◌≡◌}
-use Prim.Native.Nat.{◌-◌, ◌*◌, ◌≤◌}
 use native.Mathlib.Omega.{arith}
-use borrow.Author.Rules.{rules}
-use Rattle.store.specs.Database.{table_start}
 use Rattle.store.proofs.Laws.Tables.{start_none, start_more, start_end, table_small}
 use Rattle.plan.proofs.Laws.Formed.{limited}
 use Rattle.store.proofs.database.table_start.Goals as goal
@@ -12,31 +8,31 @@ loop-i-init c = (omega arith, start_none _ _, omega arith)
 
 pub overflow_mul-at : goal.overflow_mul-at
 overflow_mul-at c = omega (
-      arith,
-      table_small _ c.args.counts.now c.loop-i.i c.wide.ensures
-          c.wide-in-loop-i.ensures c.table_width.ensures c.wide-in-loop-i-2.ensures c.requires.3 c.requires.0 (omega arith),
-    )
+  arith,
+  table_small _ c.args.counts.now c.loop-i.i c.wide.ensures
+      c.wide-in-loop-i.ensures c.table_width.ensures c.wide-in-loop-i-2.ensures c.requires.3 c.requires.0 (omega arith),
+)
 
 pub overflow_add-at : goal.overflow_add-at
 overflow_add-at c = omega (
-      arith,
-      (limited _ c.requires.0).tables_few,
-      table_small _ c.args.counts.now c.loop-i.i
-          c.wide.ensures c.wide-in-loop-i.ensures c.table_width.ensures c.wide-in-loop-i-2.ensures c.requires.3
-          c.requires.0 (omega arith),
-    )
+  arith,
+  (limited _ c.requires.0).tables_few,
+  table_small _ c.args.counts.now c.loop-i.i
+      c.wide.ensures c.wide-in-loop-i.ensures c.table_width.ensures c.wide-in-loop-i-2.ensures c.requires.3
+      c.requires.0 (omega arith),
+)
 
 pub loop-i-preserved : goal.loop-i-preserved
 loop-i-preserved c = (
-      omega arith,
-      start_more _ _ c.loop-i.i c.wide.ensures c.wide-in-loop-i.ensures c.table_width.ensures
-          c.wide-in-loop-i-2.ensures c.loop-i.invariant.1,
-      omega (
-        arith,
-        table_small _ c.args.counts.now c.loop-i.i c.wide.ensures
-            c.wide-in-loop-i.ensures c.table_width.ensures c.wide-in-loop-i-2.ensures c.requires.3 c.requires.0 (omega arith),
-      ),
-    )
+  omega arith,
+  start_more _ _ c.loop-i.i c.wide.ensures c.wide-in-loop-i.ensures c.table_width.ensures
+      c.wide-in-loop-i-2.ensures c.loop-i.invariant.1,
+  omega (
+    arith,
+    table_small _ c.args.counts.now c.loop-i.i c.wide.ensures
+        c.wide-in-loop-i.ensures c.table_width.ensures c.wide-in-loop-i-2.ensures c.requires.3 c.requires.0 (omega arith),
+  ),
+)
 
 pub returns : goal.returns
 returns c = let p = c.requires in

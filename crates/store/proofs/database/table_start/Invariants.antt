@@ -1,10 +1,6 @@
 use mathlib.Core.Path.{◌≡◌}
 use Prim.Native.Nat.{◌-◌, ◌*◌, ◌≤◌}
-use native.Mathlib.Omega.{arith}
-use borrow.Author.Rules.{rules}
 use Rattle.store.specs.Database.{table_start}
-use Rattle.store.proofs.Laws.Tables.{start_none, start_more, start_end, table_small}
-use Rattle.plan.proofs.Laws.Formed.{limited}
 use Rattle.store.proofs.database.table_start.Given as goal
 
 abbrev pub invariant-loop-i : goal.invariant-loop-i

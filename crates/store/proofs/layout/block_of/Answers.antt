@@ -1,4 +1,3 @@
-use borrow.Author.Rules.{rules}
 use Rattle.store.proofs.Laws.Layouts.{block_read}
 use Rattle.store.proofs.layout.block_of.Goals as goal
 

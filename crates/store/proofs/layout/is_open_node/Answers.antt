@@ -1,4 +1,3 @@
-use borrow.Author.Rules.{rules}
 use Rattle.store.proofs.Laws.Layouts.{open_read}
 use Rattle.store.proofs.layout.is_open_node.Goals as goal
 

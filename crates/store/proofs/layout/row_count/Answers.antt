@@ -1,4 +1,3 @@
-use borrow.Author.Rules.{rules}
 use Rattle.store.proofs.Laws.Layouts.{count_read}
 use Rattle.store.proofs.layout.row_count.Goals as goal
 

@@ -1,8 +1,6 @@
 use mathlib.Core.Path.{◌≡◌}
 use Prim.Native.Nat.{◌≤◌}
-use native.Mathlib.Omega.{arith}
-use borrow.Author.Rules.{rules}
-use Rattle.store.proofs.Laws.Layouts.{widest_from, widest_none, widest_wider, widest_same, widest_whole}
+use Rattle.store.proofs.Laws.Layouts.{widest_from}
 use Rattle.store.proofs.layout.widest_row.Given as goal
 
 abbrev pub invariant-loop-n : goal.invariant-loop-n

@@ -1,10 +1,8 @@
 use mathlib.Core.Path.{refl, ◌∙◌}
-use Prim.Native.Nat.{◌-◌, ◌≤◌}
 use native.Mathlib.Omega.{arith}
 use lib.ListN.{length-set}
-use borrow.Author.Rules.{rules}
 use Rattle.plan.proofs.Laws.Formed.{limited}
-use Rattle.store.proofs.Laws.Layouts.{Filled, counts_laid, filled_none, filled_more, filled_laid, area_small, read_at}
+use Rattle.store.proofs.Laws.Layouts.{counts_laid, filled_none, filled_more, filled_laid, area_small, read_at}
 use Rattle.store.proofs.layout.work_out_layout.Goals as goal
 
 pub write_counts-requires : goal.write_counts-requires
@@ -21,9 +19,9 @@ overflow_mul-area c = let p = c.requires in
 
 pub loop-n-init : goal.loop-n-init
 loop-n-init c = let p = c.requires in (
-      omega arith,
-      filled_none _ _ _ (c.write_counts.auto.1.0 ∙ p.6) (counts_laid _ _ c.write_counts.ensures p.1),
-    )
+  omega arith,
+  filled_none _ _ _ (c.write_counts.auto.layout ∙ p.6) (counts_laid _ _ c.write_counts.ensures p.1),
+)
 
 pub bounds-widths-wide : goal.bounds-widths-wide
 bounds-widths-wide c = let p = c.requires in
@@ -47,14 +45,14 @@ bounds-layout-at-in-loop-n-2 c = simp length-set (omega (arith, (limited _ c.req
 
 pub loop-n-preserved : goal.loop-n-preserved
 loop-n-preserved c = (
-      omega arith,
-      filled_more _ _ c.loop-n.invariant.1 (omega (arith, (limited _ c.requires.0.formed.sized).nodes_few))
-          c.wide-at.ensures
-          (read_at c.args.widths.now c.wide.ensures (c.requires.4 c.loop-n.n (omega arith)))
-          (read_at c.args.reaches.now c.wide-in-loop-n.ensures (c.requires.5 c.loop-n.n (omega arith)))
-          c.start.ensures.0
-          c.start.ensures.1,
-    )
+  omega arith,
+  filled_more _ _ c.loop-n.invariant.1 (omega (arith, (limited _ c.requires.0.formed.sized).nodes_few))
+      c.wide-at.ensures
+      (read_at c.args.widths.now c.wide.ensures (c.requires.4 c.loop-n.n (omega arith)))
+      (read_at c.args.reaches.now c.wide-in-loop-n.ensures (c.requires.5 c.loop-n.n (omega arith)))
+      c.start.ensures.0
+      c.start.ensures.1,
+)
 
 pub shape_of-layout : goal.shape_of-layout
 shape_of-layout c = omega (arith, c.loop-n.invariant.1.long, c.requires.6)

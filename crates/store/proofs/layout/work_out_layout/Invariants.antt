@@ -1,10 +1,5 @@
-use mathlib.Core.Path.{refl, ◌∙◌}
 use Prim.Native.Nat.{◌-◌, ◌≤◌}
-use native.Mathlib.Omega.{arith}
-use lib.ListN.{length-set}
-use borrow.Author.Rules.{rules}
-use Rattle.plan.proofs.Laws.Formed.{limited}
-use Rattle.store.proofs.Laws.Layouts.{Filled, counts_laid, filled_none, filled_more, filled_laid, area_small, read_at}
+use Rattle.store.proofs.Laws.Layouts.{Filled}
 use Rattle.store.proofs.layout.work_out_layout.Given as goal
 
 abbrev pub invariant-loop-n : goal.invariant-loop-n

@@ -1,9 +1,7 @@
-use mathlib.Core.Path.{◌≡◌}
-use Prim.Native.Nat.{◌-◌, ◌≤◌}
 use native.Mathlib.Omega.{arith}
-use lib.ListN.{length, length-set}
+use lib.ListN.{length-set}
 use borrow.Author.Rules.{rules}
-use Rattle.store.proofs.Laws.Layouts.{Copied, counts_none, counts_more, counts_all}
+use Rattle.store.proofs.Laws.Layouts.{counts_none, counts_more, counts_all}
 use Rattle.store.proofs.layout.write_counts.Goals as goal
 
 pub loop-t-init : goal.loop-t-init

@@ -1,9 +1,7 @@
 use mathlib.Core.Path.{◌≡◌}
 use Prim.Native.Nat.{◌-◌, ◌≤◌}
-use native.Mathlib.Omega.{arith}
-use lib.ListN.{length, length-set}
-use borrow.Author.Rules.{rules}
-use Rattle.store.proofs.Laws.Layouts.{Copied, counts_none, counts_more, counts_all}
+use lib.ListN.{length}
+use Rattle.store.proofs.Laws.Layouts.{Copied}
 use Rattle.store.proofs.layout.write_counts.Given as goal
 
 abbrev pub invariant-loop-t : goal.invariant-loop-t

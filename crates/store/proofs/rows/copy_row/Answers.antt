@@ -2,7 +2,6 @@ use Rattle.store.proofs.Laws.Parts.{row_small, row_end, either_small, first_hold
 use native.Mathlib.Omega.{arith}
 use lib.ListN.{length}
 use Prim.Native.Nat.{◌+◌, ◌*◌, ◌^◌}
-use borrow.Author.Rules.{rules}
 use Rattle.store.proofs.rows.copy_row.Goals as goal
 
 pub overflow_mul-from : goal.overflow_mul-from

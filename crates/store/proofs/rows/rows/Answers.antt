@@ -2,7 +2,6 @@ use Rattle.store.proofs.Laws.Parts.{row_small, lists_small, part_long}
 use mathlib.Core.Bool.{cond}
 use native.Mathlib.Omega.{arith}
 use Prim.Native.Nat.{◌*◌, ◌^◌}
-use borrow.Author.Rules.{rules}
 use Rattle.store.proofs.rows.rows.Goals as goal
 
 pub overflow_mul-b : goal.overflow_mul-b
