@@ -7,7 +7,7 @@ use native.Mathlib.Nat.{add-zero, zero-add}
 use native.Mathlib.Omega.{arith}
 use lib.Dec.{eqb}
 use lib.ListN.{get_or, length, length-append, length-map}
-use Rattle.algebra.specs.Lists.{Every, each, is_empty, keep, more, upto}
+use Rattle.algebra.specs.Lists.{Every, each, is_empty, keep, upto}
 use Rattle.algebra.specs.Value.{Row}
 use Rattle.algebra.specs.Plan.{Aggregate, Computation, Conjunct, Kind, Node, anti, compute, dependent, group, groupjoin, inner, join, join_width, left_outer, project, scan, select, semi}
 use Rattle.algebra.specs.Operators.{Outer, aggregates, computed, grouped, groupjoin_rows, groups_by, join_rows, passes, picked}

@@ -2,8 +2,6 @@ use mathlib.Core.Path.{◌≡◌, sym, ◌∙◌}
 use mathlib.Core.Bool.{true}
 use Prim.Native.Nat.{◌<◌}
 use native.Mathlib.Omega.{arith}
-use borrow.Author.Tests.{not-true, not-false}
-use borrow.Author.Rules.{rules}
 use Rattle.plan.specs.Verdict.{has_right}
 use Rattle.plan.proofs.Laws.Formed.{limited, left_below, right_below}
 use Rattle.plan.proofs.Laws.Columns.{columns_scan, columns_one, columns_two}

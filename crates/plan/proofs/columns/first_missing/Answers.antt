@@ -1,10 +1,6 @@
-use mathlib.Core.Path.{◌≡◌, ◌∙◌}
+use mathlib.Core.Path.{◌∙◌}
 use mathlib.Core.Bool.{not}
-use mathlib.Core.List.{[]}
-use Prim.Native.Nat.{◌≤◌, ◌-◌}
 use native.Mathlib.Omega.{arith}
-use borrow.Author.Rules.{rules}
-use Rattle.algebra.specs.Lists.{keep, upto}
 use Rattle.plan.specs.Verdict.{columns_right}
 use Rattle.plan.proofs.Laws.Loops.{lowest_end, wrong_found, wrong_more}
 use mathlib.Core.Path.{ap}

@@ -1,10 +1,8 @@
 use mathlib.Core.Path.{◌≡◌}
 use mathlib.Core.Bool.{false}
 use mathlib.Core.List.{List}
-use mathlib.Core.Logic.{⊎_elim}
 use Prim.Native.Nat.{ℕ}
 use native.Mathlib.Omega.{arith}
-use borrow.Author.Rules.{rules}
 use Rattle.plan.specs.Words.{Item, item_at}
 use Rattle.plan.specs.Items.{between}
 use Rattle.plan.specs.Verdict.{scope_of}
@@ -20,10 +18,10 @@ returns-then-not-term_there c =
     let item : Item = item_at c.args.words.now c.args.j in
     let a = c.args in
     let outside : between 11 16 c.tag-t.result ≡ false =
-      elim c.in_default.branch [
-        in_default-via-then-t-lt11 w ↦ outside_low c.tag-t.result (omega arith)
+    elim c.in_default.branch [
+      | in_default-via-then-t-lt11 w ↦ outside_low c.tag-t.result (omega arith)
       | in_default-via-else-t-lt11+else-t-lt17 w ↦ outside_high c.tag-t.result (omega arith)
-      ] in
+    ] in
     item_missing scope a.w a.v item c.tag-t.ensures c.first_term-in_default.ensures c.term_there-in_default.ensures outside (ap not c.if-not-term_there.true)
 
 pub returns-in-13 : goal.returns-in-13
@@ -53,8 +51,8 @@ returns-else-not-term_there c =
     let item : Item = item_at c.args.words.now c.args.j in
     let a = c.args in
     let outside : between 11 16 c.tag-t.result ≡ false =
-      elim c.in_default.branch [
-        in_default-via-then-t-lt11 w ↦ outside_low c.tag-t.result (omega arith)
+    elim c.in_default.branch [
+      | in_default-via-then-t-lt11 w ↦ outside_low c.tag-t.result (omega arith)
       | in_default-via-else-t-lt11+else-t-lt17 w ↦ outside_high c.tag-t.result (omega arith)
-      ] in
+    ] in
     item_both scope a.w a.v item c.tag-t.ensures c.first_term-in_default.ensures c.term_there-in_default.ensures outside (omega arith) (ap not c.if-not-term_there.false) c.second_term.ensures c.term_there-in_default-2.ensures

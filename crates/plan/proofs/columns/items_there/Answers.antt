@@ -1,10 +1,7 @@
-use mathlib.Core.Path.{◌≡◌}
-use mathlib.Core.Bool.{Bool, true}
-use Prim.Native.Nat.{◌≤◌, ◌-◌}
+use mathlib.Core.Bool.{Bool}
 use native.Mathlib.Omega.{arith}
 use borrow.Author.Rules.{rules}
-use Rattle.algebra.specs.Lists.{all}
-use Rattle.plan.specs.Words.{Item, items_from}
+use Rattle.plan.specs.Words.{Item}
 use Rattle.plan.specs.Verdict.{scope_of}
 use Rattle.plan.specs.Passes.{item_there}
 use Rattle.plan.proofs.Laws.Items.{items_more, items_fail, items_end, items_read}

@@ -1,14 +1,10 @@
 use mathlib.Core.Path.{◌≡◌}
-use mathlib.Core.Bool.{Bool, true}
+use mathlib.Core.Bool.{true}
 use Prim.Native.Nat.{◌≤◌, ◌-◌}
-use native.Mathlib.Omega.{arith}
-use borrow.Author.Rules.{rules}
 use Rattle.algebra.specs.Lists.{all}
-use Rattle.plan.specs.Words.{Item, items_from}
+use Rattle.plan.specs.Words.{items_from}
 use Rattle.plan.specs.Verdict.{scope_of}
 use Rattle.plan.specs.Passes.{item_there}
-use Rattle.plan.proofs.Laws.Items.{items_more, items_fail, items_end, items_read}
-use Rattle.plan.proofs.Laws.Columns.{item_place}
 use Rattle.plan.proofs.columns.items_there.Given as goal
 
 abbrev pub invariant-loop-i : goal.invariant-loop-i

@@ -1,6 +1,4 @@
-use mathlib.Core.Logic.{⊎_elim}
 use Rattle.plan.proofs.Laws.Scope.{around_side, around_left, around_plain}
-use borrow.Author.Rules.{rules}
 use Rattle.plan.proofs.columns.join_around.Goals.{then-operator-eq8+else-right-i, else-operator-eq8}
 use Rattle.plan.proofs.columns.join_around.Goals as goal
 
@@ -12,6 +10,6 @@ returns c =
     let o = c.operator.ensures in
     rw c.wide.ensures
     (elim c.if-operator-eq8.branch [
-      then-operator-eq8+else-right-i t ↦ around_left _ _ _ _ _ o _ t.right.ensures t.if-right-i.false
-    | else-operator-eq8 t ↦ around_plain _ _ _ _ _ o t.if-operator-eq8.false
+      | then-operator-eq8+else-right-i t ↦ around_left _ _ _ _ _ o _ t.right.ensures t.if-right-i.false
+      | else-operator-eq8 t ↦ around_plain _ _ _ _ _ o t.if-operator-eq8.false
     ])

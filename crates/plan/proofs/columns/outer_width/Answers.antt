@@ -1,7 +1,6 @@
-use borrow.Author.Rules.{rules}
 use native.Mathlib.Omega.{arith}
 use Rattle.plan.proofs.Laws.Formed.{limited}
-use Rattle.plan.proofs.Laws.Levels.{Climbed, climb_start, climb_next, climb_none, climb_inside, climb_end}
+use Rattle.plan.proofs.Laws.Levels.{climb_start, climb_next, climb_none, climb_inside, climb_end}
 use Rattle.plan.proofs.columns.outer_width.Goals as goal
 
 pub bounds-joins-wide : goal.bounds-joins-wide

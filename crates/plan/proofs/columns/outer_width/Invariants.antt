@@ -1,7 +1,4 @@
-use borrow.Author.Rules.{rules}
-use native.Mathlib.Omega.{arith}
-use Rattle.plan.proofs.Laws.Formed.{limited}
-use Rattle.plan.proofs.Laws.Levels.{Climbed, climb_start, climb_next, climb_none, climb_inside, climb_end}
+use Rattle.plan.proofs.Laws.Levels.{Climbed}
 use Rattle.plan.proofs.columns.outer_width.Given as goal
 
 abbrev pub invariant-loop-l : goal.invariant-loop-l

@@ -1,5 +1,4 @@
 use Rattle.plan.proofs.Laws.Columns.{local_there, outer_there, constant_there, null_there}
-use borrow.Author.Rules.{rules}
 use Rattle.plan.proofs.columns.term_there.Goals as goal
 
 pub returns-in-Local : goal.returns-in-Local

@@ -1,6 +1,5 @@
 use native.Mathlib.Omega.{arith}
 use Rattle.plan.proofs.Laws.Header.{header_fails, header_last}
-use borrow.Author.Rules.{rules}
 use Rattle.plan.proofs.header.header_right.Goals as goal
 
 pub returns-then-words-lt8 : goal.returns-then-words-lt8

@@ -1,6 +1,5 @@
 use native.Mathlib.Omega.{arith}
 use Rattle.plan.proofs.Laws.Header.{limits_fail, limits_last}
-use borrow.Author.Rules.{rules}
 use Rattle.plan.proofs.header.limits_right.Goals as goal
 
 pub returns-then-t-lt1 : goal.returns-then-t-lt1

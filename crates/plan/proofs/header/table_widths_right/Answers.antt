@@ -1,9 +1,5 @@
-use mathlib.Core.Path.{◌≡◌}
-use mathlib.Core.Bool.{true}
-use Prim.Native.Nat.{◌≤◌, ◌-◌}
 use native.Mathlib.Omega.{arith}
-use Rattle.plan.proofs.Laws.Header.{widths_right, widths_more, widths_fail, widths_end}
-use borrow.Author.Rules.{rules}
+use Rattle.plan.proofs.Laws.Header.{widths_more, widths_fail, widths_end}
 use Rattle.plan.proofs.header.table_widths_right.Goals as goal
 
 pub returns-then-w-lt1 : goal.returns-then-w-lt1

@@ -1,9 +1,7 @@
 use mathlib.Core.Path.{◌≡◌}
 use mathlib.Core.Bool.{true}
 use Prim.Native.Nat.{◌≤◌, ◌-◌}
-use native.Mathlib.Omega.{arith}
-use Rattle.plan.proofs.Laws.Header.{widths_right, widths_more, widths_fail, widths_end}
-use borrow.Author.Rules.{rules}
+use Rattle.plan.proofs.Laws.Header.{widths_right}
 use Rattle.plan.proofs.header.table_widths_right.Given as goal
 
 abbrev pub invariant-loop-i : goal.invariant-loop-i

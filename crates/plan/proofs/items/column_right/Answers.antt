@@ -1,5 +1,4 @@
 use Rattle.plan.proofs.Laws.Items.{and_fails, and_passes}
-use borrow.Author.Rules.{rules}
 use mathlib.Core.Path.{ap}
 use mathlib.Core.Bool.{not}
 use Rattle.plan.proofs.items.column_right.Goals as goal

@@ -1,5 +1,4 @@
 use Rattle.plan.proofs.Laws.Items.{range_under, range_over, range_within, and_fails, and_passes, choose_first, choose_second}
-use borrow.Author.Rules.{rules}
 use mathlib.Core.Path.{ap}
 use mathlib.Core.Bool.{not}
 use Rattle.plan.proofs.items.computation_right.Goals as goal

@@ -1,5 +1,4 @@
 use Rattle.plan.proofs.Laws.Items.{front_fails, front_passes}
-use borrow.Author.Rules.{rules}
 use mathlib.Core.Path.{ap}
 use mathlib.Core.Bool.{not}
 use Rattle.plan.proofs.items.in_front.Goals as goal

@@ -1,5 +1,4 @@
 use Rattle.plan.proofs.Laws.Items.{by_sort, is_not, is}
-use borrow.Author.Rules.{rules}
 use Rattle.plan.proofs.items.item_right.Goals as goal
 
 pub returns-then-tag-ne11 : goal.returns-then-tag-ne11

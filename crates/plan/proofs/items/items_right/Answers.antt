@@ -1,11 +1,5 @@
 use Rattle.plan.proofs.Laws.Items.{items_more, items_fail, items_end}
-use mathlib.Core.Path.{◌≡◌}
-use mathlib.Core.Bool.{true}
-use Prim.Native.Nat.{◌-◌, ◌≤◌}
 use native.Mathlib.Omega.{arith}
-use borrow.Author.Rules.{rules}
-use Rattle.algebra.specs.Lists.{all}
-use Rattle.plan.specs.Words.{items_from}
 use Rattle.plan.specs.Sorts.{right_of}
 use mathlib.Core.Path.{ap}
 use mathlib.Core.Bool.{not}

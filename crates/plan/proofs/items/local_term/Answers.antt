@@ -2,7 +2,6 @@ use mathlib.Core.Path.{ap}
 use Prim.Native.Nat.{ℕ}
 use lib.Dec.{eqb}
 use Rattle.plan.proofs.Laws.Items.{is_not, is}
-use borrow.Author.Rules.{rules}
 use Rattle.plan.proofs.items.local_term.Goals as goal
 
 pub returns-then-item_word-ne0 : goal.returns-then-item_word-ne0

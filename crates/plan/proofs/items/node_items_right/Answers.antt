@@ -1,10 +1,4 @@
-use mathlib.Core.Path.{◌≡◌}
-use mathlib.Core.Bool.{Bool}
-use mathlib.Core.List.{List}
-use Prim.Native.Nat.{ℕ}
 use borrow.Author.Rules.{rules}
-use Rattle.plan.specs.Words.{first_item, item_count, items_from, operator}
-use Rattle.plan.specs.Verdict.{items_right}
 use Rattle.plan.proofs.Laws.Items.{tags_most, as_read, scan_items, compute_not_one, compute_one, project_none, project_some}
 use Rattle.plan.proofs.Laws.Items.{group_none, group_some, groupjoin_none, groupjoin_some, other_items}
 use Rattle.plan.proofs.items.node_items_right.Goals as goal

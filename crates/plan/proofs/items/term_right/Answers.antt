@@ -1,5 +1,4 @@
 use Rattle.plan.proofs.Laws.Items.{outer_right, level_wrong, column_right, constant_right, null_right, code_wrong}
-use borrow.Author.Rules.{rules}
 use Rattle.plan.proofs.items.term_right.Goals as goal
 
 pub returns-then-code-eq1 : goal.returns-then-code-eq1

@@ -2,7 +2,6 @@ use mathlib.Core.Path.{ap}
 use Prim.Native.Nat.{ℕ}
 use lib.Dec.{eqb}
 use Rattle.plan.proofs.Laws.Items.{and_fails, and_passes}
-use borrow.Author.Rules.{rules}
 use mathlib.Core.Bool.{not}
 use Rattle.plan.proofs.items.unused_term.Goals as goal
 

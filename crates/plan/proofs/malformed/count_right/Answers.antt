@@ -1,5 +1,4 @@
 use Rattle.plan.proofs.Laws.Malformed.{first_wrong, root_count, node_count}
-use borrow.Author.Rules.{rules}
 use Rattle.plan.proofs.malformed.count_right.Goals as goal
 
 pub returns-then-first_item-before : goal.returns-then-first_item-before

@@ -1,5 +1,4 @@
 use Rattle.plan.proofs.Laws.Malformed.{scan_past, scan_within, left_past, right_there, right_none}
-use borrow.Author.Rules.{rules}
 use Rattle.plan.proofs.malformed.inputs_right.Goals as goal
 
 pub returns-then-tables-l : goal.returns-then-tables-l

@@ -1,5 +1,4 @@
 use Rattle.plan.proofs.Laws.Malformed.{kind_below, kind_within, kind_none}
-use borrow.Author.Rules.{rules}
 use Rattle.plan.proofs.malformed.kind_right.Goals as goal
 
 pub returns-then-k-lt1 : goal.returns-then-k-lt1

@@ -1,15 +1,10 @@
-use mathlib.Core.Path.{◌≡◌, refl, ◌∙◌}
+use mathlib.Core.Path.{◌≡◌}
 use mathlib.Core.Bool.{not}
 use mathlib.Core.List.{[]}
 use Prim.Native.Nat.{◌-◌, ◌≤◌}
-use native.Mathlib.Omega.{arith}
-use borrow.Author.Rules.{rules}
 use Rattle.algebra.specs.Lists.{keep, upto}
 use Rattle.plan.specs.Words.{items}
 use Rattle.plan.specs.Verdict.{items_before, node_right}
-use Rattle.plan.proofs.Laws.Formed.{limited}
-use Rattle.plan.proofs.Laws.Loops.{lowest_end, wrong_found, wrong_more}
-use Rattle.plan.proofs.Laws.Malformed.{none_before, before_more, before_within}
 use Rattle.plan.proofs.malformed.malformed.Given as goal
 
 abbrev pub invariant-loop-n : goal.invariant-loop-n

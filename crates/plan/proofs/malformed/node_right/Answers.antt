@@ -3,8 +3,6 @@ use mathlib.Core.Bool.{true}
 use mathlib.Core.List.{List}
 use Prim.Native.Nat.{ℕ, ◌≤◌}
 use native.Mathlib.Omega.{arith}
-use borrow.Author.Tests.{not-true, not-false}
-use borrow.Author.Rules.{rules}
 use Rattle.plan.specs.Words.{operator}
 use Rattle.plan.specs.Verdict.{inputs_right, kind_right, count_right}
 use Rattle.plan.proofs.Laws.Malformed.{count_within, operator_low, operator_high, inputs_wrong, kind_wrong, count_wrong, items_decide}

@@ -1,9 +1,7 @@
 use mathlib.Core.Path.{◌≡◌}
-use Prim.Native.Nat.{◌+◌, ◌≤◌, ◌-◌}
+use Prim.Native.Nat.{◌+◌}
 use native.Mathlib.Omega.{arith}
-use borrow.Author.Rules.{rules}
-use Rattle.plan.specs.Words.{item_at, items_from}
-use Rattle.plan.specs.Passes.{items_reach}
+use Rattle.plan.specs.Words.{item_at}
 use Rattle.plan.proofs.Laws.Reach.{reach_more}
 use Rattle.plan.proofs.reach.items_reach.Goals as goal
 

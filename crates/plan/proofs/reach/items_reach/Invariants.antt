@@ -1,10 +1,7 @@
 use mathlib.Core.Path.{◌≡◌}
-use Prim.Native.Nat.{◌+◌, ◌≤◌, ◌-◌}
-use native.Mathlib.Omega.{arith}
-use borrow.Author.Rules.{rules}
-use Rattle.plan.specs.Words.{item_at, items_from}
+use Prim.Native.Nat.{◌≤◌, ◌-◌}
+use Rattle.plan.specs.Words.{items_from}
 use Rattle.plan.specs.Passes.{items_reach}
-use Rattle.plan.proofs.Laws.Reach.{reach_more}
 use Rattle.plan.proofs.reach.items_reach.Given as goal
 
 abbrev pub invariant-loop-i : goal.invariant-loop-i

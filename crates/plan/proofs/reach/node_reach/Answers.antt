@@ -3,12 +3,9 @@ use mathlib.Core.Bool.{true}
 use mathlib.Core.List.{List}
 use Prim.Native.Nat.{ℕ}
 use lib.ListN.{get_or}
-use borrow.Author.Tests.{not-true, not-false}
-use borrow.Author.Rules.{rules}
 use Rattle.plan.specs.Words.{left, right}
 use Rattle.plan.specs.Verdict.{has_right}
-use Rattle.plan.specs.Passes.{node_reach}
-use Rattle.plan.proofs.Laws.Reach.{items_asked, left_in, right_in, reach_by, own_reach, reach_read}
+use Rattle.plan.proofs.Laws.Reach.{items_asked, left_in, right_in, own_reach, reach_read}
 use Rattle.plan.proofs.Laws.Reach.{scan_reach, one_reach, past_reach, none_reach, both_reach}
 use mathlib.Core.Bool.{not}
 use Rattle.plan.proofs.reach.node_reach.Goals as goal

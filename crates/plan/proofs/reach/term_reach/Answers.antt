@@ -1,4 +1,3 @@
-use borrow.Author.Rules.{rules}
 use Rattle.plan.proofs.Laws.Reach.{outer_reach, inner_reach}
 use Rattle.plan.proofs.reach.term_reach.Goals as goal
 

@@ -1,14 +1,9 @@
-use mathlib.Core.Path.{◌≡◌, ◌∙◌}
+use mathlib.Core.Path.{◌≡◌}
 use Prim.Native.Nat.{ℕ, ◌≤◌, ◌<◌, ◌-◌}
-use native.Mathlib.Omega.{arith}
-use borrow.Author.Rules.{rules}
-use lib.ListN.{length, get_or, length-set}
+use lib.ListN.{length, get_or}
 use Rattle.algebra.specs.Columns.{shape_at}
 use Rattle.plan.specs.Plan.{widths_of, nodes_of}
 use Rattle.plan.specs.Passes.{reach}
-use Rattle.plan.proofs.Laws.Formed.{limited}
-use Rattle.plan.proofs.Laws.Loops.{table_more, zeros_more, zeros_at}
-use Rattle.plan.proofs.Laws.Reach.{reach_of}
 use Rattle.plan.proofs.reach.work_out_reaches.Given as goal
 
 abbrev pub invariant-loop-n : goal.invariant-loop-n

@@ -1,17 +1,14 @@
-use mathlib.Core.Logic.{⊎_elim}
-use mathlib.Core.Path.{◌≡◌, sym, ◌∙◌}
-use Prim.Native.Nat.{◌-◌, ◌≤◌}
+use mathlib.Core.Path.{sym, ◌∙◌}
 use native.Mathlib.Omega.{arith}
-use borrow.Author.Rules.{rules}
-use Rattle.plan.proofs.Laws.Items.{tags_in, tags_more, tags_same, tags_end}
+use Rattle.plan.proofs.Laws.Items.{tags_more, tags_same, tags_end}
 use Rattle.plan.proofs.tags.count_tagged.Goals.{then-tagged, else-tagged}
 use Rattle.plan.proofs.tags.count_tagged.Goals as goal
 
 pub loop-i-preserved : goal.loop-i-preserved
 loop-i-preserved c =
     elim c.if-tagged.branch [
-      then-tagged w ↦ (omega arith, (omega arith, w.found-is ∙ tags_more _ _ _ _ _ _ c.loop-i.invariant.1.1 (sym w.if-tagged.true ∙ c.tagged.ensures)))
-    | else-tagged w ↦ (omega arith, (omega arith, w.found-is ∙ tags_same _ _ _ _ _ _ c.loop-i.invariant.1.1 (sym w.if-tagged.false ∙ c.tagged.ensures)))
+      | then-tagged w ↦ (omega arith, (omega arith, w.found-is ∙ tags_more _ _ _ _ _ _ c.loop-i.invariant.1.1 (sym w.if-tagged.true ∙ c.tagged.ensures)))
+      | else-tagged w ↦ (omega arith, (omega arith, w.found-is ∙ tags_same _ _ _ _ _ _ c.loop-i.invariant.1.1 (sym w.if-tagged.false ∙ c.tagged.ensures)))
     ]
 
 pub returns : goal.returns

@@ -1,9 +1,6 @@
-use mathlib.Core.Logic.{⊎_elim}
-use mathlib.Core.Path.{◌≡◌, sym, ◌∙◌}
+use mathlib.Core.Path.{◌≡◌}
 use Prim.Native.Nat.{◌-◌, ◌≤◌}
-use native.Mathlib.Omega.{arith}
-use borrow.Author.Rules.{rules}
-use Rattle.plan.proofs.Laws.Items.{tags_in, tags_more, tags_same, tags_end}
+use Rattle.plan.proofs.Laws.Items.{tags_in}
 use Rattle.plan.proofs.tags.count_tagged.Given as goal
 
 abbrev pub invariant-loop-i : goal.invariant-loop-i

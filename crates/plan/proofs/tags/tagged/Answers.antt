@@ -1,5 +1,4 @@
 use Rattle.plan.proofs.Laws.Items.{tag_under, tag_from}
-use borrow.Author.Rules.{rules}
 use Rattle.plan.proofs.tags.tagged.Goals as goal
 
 pub returns-then-t-low : goal.returns-then-t-low

@@ -3,7 +3,6 @@ use native.Mathlib.Omega.{arith}
 use mir.Syntax.{w64}
 use mir.ValLaws.{to_z-of_z}
 use Rattle.plan.proofs.Laws.Terms.{term_local, term_outer, term_constant, term_null}
-use borrow.Author.Rules.{rules}
 use Rattle.plan.proofs.terms.decode.Goals as goal
 
 pub returns-in-0 : goal.returns-in-0

@@ -1,6 +1,5 @@
 use native.Mathlib.Omega.{arith}
 use Rattle.plan.proofs.Laws.Terms.{read_low, read_high, high_fits}
-use borrow.Author.Rules.{rules}
 use Rattle.plan.proofs.terms.signed_word.Goals as goal
 
 pub overflow_sub-result : goal.overflow_sub-result

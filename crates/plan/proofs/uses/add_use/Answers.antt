@@ -1,5 +1,4 @@
 use native.Mathlib.Omega.{arith}
-use borrow.Author.Rules.{rules}
 use Rattle.plan.proofs.uses.add_use.Goals as goal
 
 pub overflow_add-uses : goal.overflow_add-uses

@@ -1,10 +1,5 @@
 use mathlib.Core.Path.{◌≡◌, ◌∙◌}
-use mathlib.Core.List.{[]}
-use mathlib.Core.Logic.{⊎_elim}
-use Prim.Native.Nat.{◌≤◌, ◌-◌}
 use native.Mathlib.Omega.{arith}
-use borrow.Author.Rules.{rules}
-use Rattle.algebra.specs.Lists.{keep, upto}
 use Rattle.plan.specs.Words.{nodes}
 use Rattle.plan.specs.Verdict.{is_open_twice}
 use Rattle.plan.proofs.Laws.Formed.{limited}
@@ -35,10 +30,10 @@ loop-n-preserved c =
     let reaches = c.args.reaches.now in
     let p = c.requires in
     let once : is_open_twice ws l.n ≡ false =
-      elim c.if-reaches-wide-gt0.branch [
-        then-reaches-wide-gt0+else-uses-wide-gt1 a ↦ open_once uses reaches p.0 p.1 p.2 l.n (omega arith) c.wide.ensures a.if-reaches-wide-gt0.true a.wide-then-reaches-wide-gt0.ensures a.if-uses-wide-gt1.false
+    elim c.if-reaches-wide-gt0.branch [
+      | then-reaches-wide-gt0+else-uses-wide-gt1 a ↦ open_once uses reaches p.0 p.1 p.2 l.n (omega arith) c.wide.ensures a.if-reaches-wide-gt0.true a.wide-then-reaches-wide-gt0.ensures a.if-uses-wide-gt1.false
       | else-reaches-wide-gt0 a ↦ closed_node_lem uses reaches p.0 p.1 p.2 l.n (omega arith) c.wide.ensures a.if-reaches-wide-gt0.false
-      ] in
+    ] in
     (omega arith, none_more (is_open_twice ws) l.n l.invariant.1 once)
 
 pub returns : goal.returns

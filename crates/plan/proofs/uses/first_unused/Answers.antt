@@ -1,10 +1,5 @@
-use mathlib.Core.Path.{◌≡◌, refl}
-use mathlib.Core.List.{[]}
-use Prim.Native.Nat.{◌+◌, ◌-◌, ◌≤◌}
+use mathlib.Core.Path.{refl}
 use native.Mathlib.Omega.{arith}
-use borrow.Author.Rules.{rules}
-use Rattle.algebra.specs.Lists.{keep, upto}
-use Rattle.plan.specs.Verdict.{is_unused_node}
 use Rattle.plan.proofs.Laws.Formed.{limited}
 use Rattle.plan.proofs.Laws.Uses.{unused_found, unused_more, unused_end}
 use Rattle.plan.proofs.uses.first_unused.Goals as goal
@@ -21,10 +16,10 @@ returns-then-uses-wide-eq0 c = unused_found c.args.uses.now c.loop-n.n c.require
 
 pub loop-n-preserved : goal.loop-n-preserved
 loop-n-preserved c = (
-      omega arith,
-      unused_more c.args.uses.now c.loop-n.n c.requires.0 c.requires.1 c.nodes-count.ensures c.loop-n.invariant.1 c.wide.ensures
-          c.loop-n-test.true c.if-uses-wide-eq0.false,
-    )
+  omega arith,
+  unused_more c.args.uses.now c.loop-n.n c.requires.0 c.requires.1 c.nodes-count.ensures c.loop-n.invariant.1 c.wide.ensures
+      c.loop-n-test.true c.if-uses-wide-eq0.false,
+)
 
 pub returns : goal.returns
 returns c = unused_end c.args.uses.now c.loop-n.n c.requires.0 c.requires.1 c.nodes-count.ensures c.loop-n.invariant.1 c.loop-n.invariant.0

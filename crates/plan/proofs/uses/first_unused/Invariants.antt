@@ -1,12 +1,8 @@
-use mathlib.Core.Path.{◌≡◌, refl}
+use mathlib.Core.Path.{◌≡◌}
 use mathlib.Core.List.{[]}
 use Prim.Native.Nat.{◌+◌, ◌-◌, ◌≤◌}
-use native.Mathlib.Omega.{arith}
-use borrow.Author.Rules.{rules}
 use Rattle.algebra.specs.Lists.{keep, upto}
 use Rattle.plan.specs.Verdict.{is_unused_node}
-use Rattle.plan.proofs.Laws.Formed.{limited}
-use Rattle.plan.proofs.Laws.Uses.{unused_found, unused_more, unused_end}
 use Rattle.plan.proofs.uses.first_unused.Given as goal
 
 abbrev pub invariant-loop-n : goal.invariant-loop-n

@@ -1,10 +1,8 @@
 use mathlib.Core.Path.{◌≡◌}
-use mathlib.Core.Logic.{⊎_elim}
 use mathlib.Core.Path.{ap, ◌∙◌}
 use Prim.Native.Nat.{ℕ, ◌+◌}
 use native.Mathlib.Omega.{arith}
 use Rattle.plan.proofs.Laws.Widths.{half_width, whole_width}
-use borrow.Author.Rules.{rules}
 use Rattle.plan.proofs.widths.join_width.Goals.{in_default-via-then-k-lt2, in_default-via-else-k-lt2+else-k-lt4}
 use Rattle.plan.proofs.widths.join_width.Goals as goal
 

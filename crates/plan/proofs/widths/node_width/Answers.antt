@@ -1,7 +1,6 @@
 use Prim.Native.Nat.{◌≤◌, ◌<◌}
 use native.Mathlib.Omega.{arith}
 use lib.ListN.{get_or}
-use borrow.Author.Rules.{rules}
 use Rattle.plan.specs.Plan.{kind_of}
 use Rattle.plan.proofs.Laws.Formed.{limited, left_below, right_below}
 use Rattle.plan.proofs.Laws.Items.{tags_most}

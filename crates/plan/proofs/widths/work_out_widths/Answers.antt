@@ -1,11 +1,8 @@
-use mathlib.Core.Path.{◌≡◌, refl}
-use mathlib.Core.List.{[]}
-use Prim.Native.Nat.{ℕ, ◌≤◌, ◌<◌, ◌-◌}
+use mathlib.Core.Path.{refl}
 use native.Mathlib.Omega.{arith}
 use borrow.Author.Rules.{rules}
-use lib.ListN.{length, get_or, length-set}
-use Rattle.algebra.specs.Lists.{keep, upto}
-use Rattle.plan.specs.Verdict.{width_at, is_too_wide}
+use lib.ListN.{length-set}
+use Rattle.plan.specs.Verdict.{width_at}
 use Rattle.plan.proofs.Laws.Formed.{limited}
 use Rattle.plan.proofs.Laws.Loops.{table_more, zeros_more, zeros_at}
 use Rattle.plan.proofs.Laws.Widths.{rows_low, width_is, measured_wide, narrow_more, measured_all}

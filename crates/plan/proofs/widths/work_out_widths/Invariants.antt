@@ -1,14 +1,9 @@
-use mathlib.Core.Path.{◌≡◌, refl}
+use mathlib.Core.Path.{◌≡◌}
 use mathlib.Core.List.{[]}
 use Prim.Native.Nat.{ℕ, ◌≤◌, ◌<◌, ◌-◌}
-use native.Mathlib.Omega.{arith}
-use borrow.Author.Rules.{rules}
-use lib.ListN.{length, get_or, length-set}
+use lib.ListN.{length, get_or}
 use Rattle.algebra.specs.Lists.{keep, upto}
 use Rattle.plan.specs.Verdict.{width_at, is_too_wide}
-use Rattle.plan.proofs.Laws.Formed.{limited}
-use Rattle.plan.proofs.Laws.Loops.{table_more, zeros_more, zeros_at}
-use Rattle.plan.proofs.Laws.Widths.{rows_low, width_is, measured_wide, narrow_more, measured_all}
 use Rattle.plan.proofs.widths.work_out_widths.Given as goal
 
 abbrev pub invariant-loop-n : goal.invariant-loop-n

@@ -1,4 +1,3 @@
-use borrow.Author.Rules.{rules}
 use Rattle.plan.proofs.words.node_word.Goals as goal
 
 pub returns : goal.returns

@@ -1,5 +1,4 @@
 use Rattle.plan.proofs.Laws.Words.{word_read, word_past}
-use borrow.Author.Rules.{rules}
 use Rattle.plan.proofs.words.word.Goals as goal
 
 pub returns-then-i-words : goal.returns-then-i-words
