@@ -1,5 +1,5 @@
 /* Prints the scrub list of a small drive shelf: plan S as it is written, and its rewriting.
- * Build: rt staticlib tunesaturn && cc -Iinclude -o scrub_list examples/scrub_list.c target/staticlib/libtunesaturn.a */
+ * Build: tools/build tunesaturn && cc -Iinclude -o scrub_list examples/scrub_list.c target/staticlib/libtunesaturn.a */
 #include <inttypes.h>
 #include <stdio.h>
 #include <stdlib.h>

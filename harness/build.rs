@@ -1,4 +1,4 @@
-// Links the static library that `rt staticlib tunesaturn` writes.
+// Links the static library that `tools/build tunesaturn` writes.
 fn main() {
     let root = std::path::Path::new(env!("CARGO_MANIFEST_DIR")).parent().unwrap();
     let folder = root.join("target/staticlib");
