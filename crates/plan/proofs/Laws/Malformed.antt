@@ -34,31 +34,31 @@ module _ (o : ℕ) where
 
 -- ---- inputs
 
-module _ (ws : List ℕ) (n : ℕ) {o l r : ℕ} (is-operator : o ≡ operator ws n) (is-left : l ≡ left ws n) (is_right : r ≡ right ws n) where
+module _ (ws : List ℕ) (n : ℕ) {o l r : ℕ} (is_operator : o ≡ operator ws n) (is_left : l ≡ left ws n) (is_right : r ≡ right ws n) where
   -- the table of a scan does not exist
   pub scan_past : {t : ℕ} → t ≡ tables ws → o ≡ 1 → t ≤ l → false ≡ inputs_right ws n
   unfolding inputs_right
-  scan_past {t} is-tables e h = rw (← is-operator, ← is-left, ← is_right, ← is-tables, eq-eqb o 1 e, le-ltb l t h)
+  scan_past {t} is_tables e h = rw (← is_operator, ← is_left, ← is_right, ← is_tables, eq-eqb o 1 e, le-ltb l t h)
 
   -- the table of a scan exists, and its right word decides
   pub scan_within : {t : ℕ} → t ≡ tables ws → o ≡ 1 → l < t → eqb r 0 ≡ inputs_right ws n
   unfolding inputs_right
-  scan_within {t} is-tables e h = rw (← is-operator, ← is-left, ← is_right, ← is-tables, e, lt-ltb l t h)
+  scan_within {t} is_tables e h = rw (← is_operator, ← is_left, ← is_right, ← is_tables, e, lt-ltb l t h)
 
   -- the left input is not below the node
   pub left_past : (o ≡ 1 → ⊥) → n ≤ l → false ≡ inputs_right ws n
   unfolding inputs_right
-  left_past e h = rw (← is-operator, ← is-left, ← is_right, ne_eqb o 1 e, le-ltb l n h)
+  left_past e h = rw (← is_operator, ← is_left, ← is_right, ne_eqb o 1 e, le-ltb l n h)
 
   -- a right input decides
   pub right_there : (o ≡ 1 → ⊥) → l < n → {b : Bool} → b ≡ has_right o → b ≡ true → ltb r n ≡ inputs_right ws n
   unfolding inputs_right
-  right_there e h says t = rw (← is-operator, ← is-left, ← is_right, ne_eqb o 1 e, lt-ltb l n h, sym says ∙ t)
+  right_there e h says t = rw (← is_operator, ← is_left, ← is_right, ne_eqb o 1 e, lt-ltb l n h, sym says ∙ t)
 
   -- a right word that is no input decides
   pub right_none : (o ≡ 1 → ⊥) → l < n → {b : Bool} → b ≡ has_right o → b ≡ false → eqb r 0 ≡ inputs_right ws n
   unfolding inputs_right
-  right_none e h says t = rw (← is-operator, ← is-left, ← is_right, ne_eqb o 1 e, lt-ltb l n h, sym says ∙ t)
+  right_none e h says t = rw (← is_operator, ← is_left, ← is_right, ne_eqb o 1 e, lt-ltb l n h, sym says ∙ t)
 
 -- ---- kinds
 
@@ -66,43 +66,43 @@ module _ (ws : List ℕ) (n : ℕ) {o l r : ℕ} (is-operator : o ≡ operator w
 pub kind_has : (o : ℕ) → (o ≡ 5) ⊎ (o ≡ 8) → has_kind o ≡ true
 kind_has o k = ⊎_elim (λ e. rw (eq-eqb o 5 e)) (λ e. rw e) k
 
-module _ (ws : List ℕ) (n : ℕ) {o k : ℕ} (is-operator : o ≡ operator ws n) (is-kind : k ≡ kind ws n) where
+module _ (ws : List ℕ) (n : ℕ) {o k : ℕ} (is_operator : o ≡ operator ws n) (is_kind : k ≡ kind ws n) where
   -- the kind is 0
   pub kind_below : (o ≡ 5) ⊎ (o ≡ 8) → k < 1 → false ≡ kind_right ws n
   unfolding kind_right
-  kind_below e h = rw (← is-operator, ← is-kind, kind_has o e, lt-leb 1 k h)
+  kind_below e h = rw (← is_operator, ← is_kind, kind_has o e, lt-leb 1 k h)
 
   -- the kind is not 0, and decides
   pub kind_within : (o ≡ 5) ⊎ (o ≡ 8) → 1 ≤ k → leb k 4 ≡ kind_right ws n
   unfolding kind_right
-  kind_within e h = rw (← is-operator, ← is-kind, kind_has o e, le-leb 1 k h)
+  kind_within e h = rw (← is_operator, ← is_kind, kind_has o e, le-leb 1 k h)
 
   -- a kind word that is no kind decides
   pub kind_none : ((o ≡ 5) ⊎ (o ≡ 8) → ⊥) → eqb k 0 ≡ kind_right ws n
   unfolding kind_right
-  kind_none e = rw (← is-operator, ← is-kind, ne_eqb o 5 (λ q. e (inl q)), ne_eqb o 8 (λ q. e (inr q)))
+  kind_none e = rw (← is_operator, ← is_kind, ne_eqb o 5 (λ q. e (inl q)), ne_eqb o 8 (λ q. e (inr q)))
 
 -- ---- counts
 
-module _ (ws : List ℕ) (n : ℕ) {f b : ℕ} (is-first : f ≡ first_item ws n) (is-before : b ≡ items_before ws n) where
+module _ (ws : List ℕ) (n : ℕ) {f b : ℕ} (is_first : f ≡ first_item ws n) (is_before : b ≡ items_before ws n) where
   -- the items do not begin where those before end
   pub first_wrong : (f ≡ b → ⊥) → false ≡ count_right ws n
   unfolding count_right
-  first_wrong e = rw (← is-first, ← is-before, ne_eqb f b e)
+  first_wrong e = rw (← is_first, ← is_before, ne_eqb f b e)
 
-  module _ (e : f ≡ b) {m w v k a i : ℕ} (is-nodes : m ≡ nodes ws) (is_IsWide : w ≡ b) (is-wide-count : v ≡ k) (is-count : k ≡ item_count ws n)
-      (is_all : a ≡ i) (is-items : i ≡ items ws) where
+  module _ (e : f ≡ b) {m w v k a i : ℕ} (is_nodes : m ≡ nodes ws) (is_wide : w ≡ b) (is_wide_count : v ≡ k) (is_count : k ≡ item_count ws n)
+      (is_all : a ≡ i) (is_items : i ≡ items ws) where
     -- the items of the root end where all do
     pub root_count : n + 1 ≡ m → eqb (w + v) a ≡ count_right ws n
     unfolding count_right
     root_count h =
-        rw (← is-first, ← is-before, ← is-nodes, ← is-count, ← is-items, eq-eqb f b e, eq-eqb (n + 1) m h, ← is_IsWide, ← is-wide-count, ← is_all)
+        rw (← is_first, ← is_before, ← is_nodes, ← is_count, ← is_items, eq-eqb f b e, eq-eqb (n + 1) m h, ← is_wide, ← is_wide_count, ← is_all)
 
     -- the items of another node end no later
     pub node_count : (n + 1 ≡ m → ⊥) → leb (w + v) a ≡ count_right ws n
     unfolding count_right
     node_count h =
-        rw (← is-first, ← is-before, ← is-nodes, ← is-count, ← is-items, eq-eqb f b e, ne_eqb (n + 1) m h, ← is_IsWide, ← is-wide-count, ← is_all)
+        rw (← is_first, ← is_before, ← is_nodes, ← is_count, ← is_items, eq-eqb f b e, ne_eqb (n + 1) m h, ← is_wide, ← is_wide_count, ← is_all)
 
 -- what a right count says
 pub count_within : (ws : List ℕ) (n : ℕ) {b : Bool} → b ≡ count_right ws n → not b ≡ false → first_item ws n + item_count ws n ≤ items ws
@@ -126,20 +126,20 @@ module _ (ws : List ℕ) (n : ℕ) where
     unfolding node_right
     inputs_wrong e = rw (le-leb 1 (operator ws n) range.0, le-leb (operator ws n) 8 range.1, e)
 
-    module _ (inputs-fine : inputs_right ws n ≡ true) where
+    module _ (inputs_fine : inputs_right ws n ≡ true) where
       pub kind_wrong : kind_right ws n ≡ false → false ≡ node_right ws n
       unfolding node_right
-      kind_wrong e = rw (le-leb 1 (operator ws n) range.0, le-leb (operator ws n) 8 range.1, inputs-fine, e)
+      kind_wrong e = rw (le-leb 1 (operator ws n) range.0, le-leb (operator ws n) 8 range.1, inputs_fine, e)
 
-      module _ (kind-fine : kind_right ws n ≡ true) where
+      module _ (kind_fine : kind_right ws n ≡ true) where
         pub count_wrong : count_right ws n ≡ false → false ≡ node_right ws n
         unfolding node_right
-        count_wrong e = rw (le-leb 1 (operator ws n) range.0, le-leb (operator ws n) 8 range.1, inputs-fine, kind-fine, e)
+        count_wrong e = rw (le-leb 1 (operator ws n) range.0, le-leb (operator ws n) 8 range.1, inputs_fine, kind_fine, e)
 
         -- all other tests pass, and the items decide
         pub items_decide : count_right ws n ≡ true → items_right (operator ws n) (items_of ws n) ≡ node_right ws n
         unfolding node_right
-        items_decide e = rw (inputs-fine, kind-fine, e, le-leb 1 (operator ws n) range.0, le-leb (operator ws n) 8 range.1)
+        items_decide e = rw (inputs_fine, kind_fine, e, le-leb 1 (operator ws n) range.0, le-leb (operator ws n) 8 range.1)
 
 -- ---- the items of the nodes before
 
@@ -151,11 +151,11 @@ none_before ws = refl
 -- one node more
 pub before_more : (ws : List ℕ) (n : ℕ) {before k : ℕ} → before ≡ items_before ws n → k ≡ item_count ws n → before + k ≡ items_before ws (n + 1)
 unfolding items_before
-before_more ws n is-before is-count = rw (add-one n, is-before, is-count)
+before_more ws n is_before is_count = rw (add-one n, is_before, is_count)
 
 -- the items of a right node stay within the table
 pub before_within : (ws : List ℕ) (n : ℕ) {b : Bool} → b ≡ node_right ws n → not b ≡ false
     → {before k : ℕ} → before ≡ items_before ws n → k ≡ item_count ws n → before + k ≤ items ws
-before_within ws n {b} says e is-before is-count =
+before_within ws n {b} says e is_before is_count =
     let f = node_facts ws n (sym says ∙ not-false b e) in
     omega (arith, f.first, f.within)

@@ -100,24 +100,24 @@ module _ {ws : List ℕ} {n : ℕ} (formed : Formed ws) (h : n < nodes ws) where
   few : nodes ws ≤ 256
   few = (limited ws formed.sized).nodes_few
 
-  module _ {o : ℕ} (is-operator : o ≡ operator ws n) {table : List ℕ} (tally : Tally table (seen ws n)) where
+  module _ {o : ℕ} (is_operator : o ≡ operator ws n) {table : List ℕ} (tally : Tally table (seen ws n)) where
     -- the left input can be counted
     pub left_fits : {l : ℕ} → l ≡ left ws n → (o ≡ 1 → ⊥) → (l < 256) × (get_or table l 0 < 1000)
-    left_fits is-left e =
-        let g : left ws n < 256 = omega (arith, left_below ws formed n h is-operator e refl refl, few) in
-        rw is-left (g, omega (arith, few, tally_few tally (left ws n) g, seen_few ws n))
+    left_fits is_left e =
+        let g : left ws n < 256 = omega (arith, left_below ws formed n h is_operator e refl refl, few) in
+        rw is_left (g, omega (arith, few, tally_few tally (left ws n) g, seen_few ws n))
 
     -- the left input is counted
     pub left_added : {l : ℕ} {after : List ℕ} → l ≡ left ws n → (o ≡ 1 → ⊥) → after ≡ set table l (get_or table l 0 + 1) → Tally after (seen_left ws n)
     unfolding seen_left
-    left_added is-left e q =
-        tally_add tally (not (eqb (operator ws n) 1)) (left ws n) (rw (← is-operator, ne_eqb o 1 e))
-        (omega (arith, left_below ws formed n h is-operator e refl refl, few)) (rw is-left at q)
+    left_added is_left e q =
+        tally_add tally (not (eqb (operator ws n) 1)) (left ws n) (rw (← is_operator, ne_eqb o 1 e))
+        (omega (arith, left_below ws formed n h is_operator e refl refl, few)) (rw is_left at q)
 
     -- a scan has none
     pub left_kept : {after : List ℕ} → o ≡ 1 → after ≡ table → Tally after (seen_left ws n)
     unfolding seen_left
-    left_kept e q = tally_keep tally (not (eqb (operator ws n) 1)) (left ws n) (rw (← is-operator, e)) q
+    left_kept e q = tally_keep tally (not (eqb (operator ws n) 1)) (left ws n) (rw (← is_operator, e)) q
 
   -- left, then right
   parted : (o : ℕ) → 1 ≤ o → o ≤ 8 → (l r : ℕ)
@@ -135,23 +135,23 @@ module _ {ws : List ℕ} {n : ℕ} (formed : Formed ws) (h : n < nodes ws) where
       rw (add-one n, seen_suc ws n, inputs_at ws formed n h, append_assoc)
       (ap (λ (xs : List ℕ). seen ws n ++ xs) (parted (operator ws n) f.low f.high (left ws n) (right ws n)))
 
-  module _ {o : ℕ} {b : Bool} (is-operator : o ≡ operator ws n) (says : b ≡ has_right o) {table : List ℕ} (tally : Tally table (seen_left ws n)) where
+  module _ {o : ℕ} {b : Bool} (is_operator : o ≡ operator ws n) (says : b ≡ has_right o) {table : List ℕ} (tally : Tally table (seen_left ws n)) where
     -- the right input can be counted
     pub right_fits : {r : ℕ} → r ≡ right ws n → b ≡ true → (r < 256) × (get_or table r 0 < 1000)
     right_fits is_right e =
-        let k : right ws n < n = right_below ws formed n h is-operator (sym says ∙ e) refl refl in
+        let k : right ws n < n = right_below ws formed n h is_operator (sym says ∙ e) refl refl in
         let g : right ws n < 256 = omega (arith, few) in
         rw is_right (g, omega (arith, few, tally_few tally (right ws n) g, seen_left_few ws n))
 
     -- the right input is counted
     pub right_added : {r : ℕ} {after : List ℕ} → r ≡ right ws n → b ≡ true → after ≡ set table r (get_or table r 0 + 1) → Tally after (seen ws (n + 1))
     right_added is_right e q =
-        let k : right ws n < n = right_below ws formed n h is-operator (sym says ∙ e) refl refl in
-        rw (← parts) (tally_add tally (has_right (operator ws n)) (right ws n) (right_read ws n is-operator says e) (omega (arith, few)) (rw is_right at q))
+        let k : right ws n < n = right_below ws formed n h is_operator (sym says ∙ e) refl refl in
+        rw (← parts) (tally_add tally (has_right (operator ws n)) (right ws n) (right_read ws n is_operator says e) (omega (arith, few)) (rw is_right at q))
 
     -- there is no right input
     pub right_kept : {after : List ℕ} → b ≡ false → after ≡ table → Tally after (seen ws (n + 1))
-    right_kept e q = rw (← parts) (tally_keep tally (has_right (operator ws n)) (right ws n) (right_read ws n is-operator says e) q)
+    right_kept e q = rw (← parts) (tally_keep tally (has_right (operator ws n)) (right ws n) (right_read ws n is_operator says e) q)
 
 -- after the last node
 pub tally_end : (ws : List ℕ) {table : List ℕ} (n : ℕ) {m : ℕ} → m ≡ nodes ws → Tally table (seen ws n) → m ≤ n → n ≤ m → Counted ws table
@@ -160,24 +160,24 @@ tally_end ws n e tally g l m h = let q : nodes ws ≡ n = omega arith in rw q (t
 
 -- ---- the lowest unused node
 
-module _ {ws : List ℕ} (uses : List ℕ) (n : ℕ) {m : ℕ} (sized : Sized ws) (counted : Counted ws uses) (is-nodes : m ≡ nodes ws)
+module _ {ws : List ℕ} (uses : List ℕ) (n : ℕ) {m : ℕ} (sized : Sized ws) (counted : Counted ws uses) (is_nodes : m ≡ nodes ws)
     (none : keep (is_unused_node ws) (upto n) ≡ []) where
   -- what the table has at node n
   there : {w : ℕ} → w ≡ n → n + 1 < m → get_or uses w 0 ≡ uses_of ws n
-  there is_IsWide h = ap (λ (i : ℕ). get_or uses i 0) is_IsWide ∙ counted n (omega (arith, (limited ws sized).nodes_few))
+  there is_wide h = ap (λ (i : ℕ). get_or uses i 0) is_wide ∙ counted n (omega (arith, (limited ws sized).nodes_few))
 
   -- node n is not used
   pub unused_found : {w : ℕ} → w ≡ n → n + 1 < m → get_or uses w 0 ≡ 0 → n ≡ lowest (is_unused_node ws) (nodes ws)
-  unused_found is_IsWide h e =
-      lowest_found (is_unused_node ws) n (nodes ws) none (rw (lt-ltb (n + 1) (nodes ws) (omega arith), sym (there is_IsWide h) ∙ e)) (omega arith)
+  unused_found is_wide h e =
+      lowest_found (is_unused_node ws) n (nodes ws) none (rw (lt-ltb (n + 1) (nodes ws) (omega arith), sym (there is_wide h) ∙ e)) (omega arith)
 
   -- node n is used
   pub unused_more : {w : ℕ} → w ≡ n → n + 1 < m → (get_or uses w 0 ≡ 0 → ⊥) → keep (is_unused_node ws) (upto (n + 1)) ≡ []
-  unused_more is_IsWide h e =
-      none_more (is_unused_node ws) n none (rw (ne_eqb (uses_of ws n) 0 (λ q. e (there is_IsWide h ∙ q))) (and-false (ltb (n + 1) (nodes ws))))
+  unused_more is_wide h e =
+      none_more (is_unused_node ws) n none (rw (ne_eqb (uses_of ws n) 0 (λ q. e (there is_wide h ∙ q))) (and-false (ltb (n + 1) (nodes ws))))
 
   -- the root need not be used
   pub unused_end : n + 1 ≤ m → m ≤ n + 1 → m ≡ lowest (is_unused_node ws) (nodes ws)
   unused_end h g =
       let none_after = none_more (is_unused_node ws) n none (rw (le-ltb (n + 1) (nodes ws) (omega arith))) in
-      is-nodes ∙ lowest_end (is_unused_node ws) (n + 1) (nodes ws) none_after (omega arith) (omega arith)
+      is_nodes ∙ lowest_end (is_unused_node ws) (n + 1) (nodes ws) none_after (omega arith) (omega arith)
