@@ -19,7 +19,7 @@ use Rattle.algebra.proofs.Lists.Every.{every_head, every_tail, every_map, every_
 use Rattle.algebra.proofs.Domains.Keys.{upto_below}
 use Rattle.algebra.proofs.Tables.Fine.{inputs_under}
 use Rattle.algebra.proofs.Tables.Theorem.{width_is}
-use Rattle.demands.specs.Visits.{Visit, visit, bindings, rows_at, anew, visits_of, visits_at, visits, alongside, Reached, alone, beneath, bound, Seen}
+use Rattle.demands.specs.Visits.{visit, bindings, rows_at, anew, visits_of, visits_at, visits, Reached, alone, beneath, bound, Seen}
 use Rattle.demands.proofs.Visited.{node_rows_lem, visits_at_lem}
 
 itself : (i : ℕ) (is : List ℕ) → any (eqb i) (i ∷ is) ≡ true

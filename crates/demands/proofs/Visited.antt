@@ -1,13 +1,13 @@
 -- The outcome of a node, and of the run, by the visits.
-use mathlib.Core.Path.{◌≡◌, refl, sym, ap, subst, ◌∙◌}
+use mathlib.Core.Path.{◌≡◌, refl, sym, ap, ◌∙◌}
 use mathlib.Core.Bool.{Bool, true, false, cond, false≢true}
 use mathlib.Core.List.{List, [], ◌∷◌, ◌++◌, map, append-nil}
-use Prim.Native.Nat.{ℕ, zero, suc, ◌+◌, ◌-◌, ◌<◌, ◌≤◌, pred}
+use Prim.Native.Nat.{ℕ, zero, suc, ◌<◌, ◌≤◌, pred}
 use native.Mathlib.Omega.{arith}
 use lib.Dec.{eqb}
 use lib.ListN.{length, get_or, take}
 use borrow.Author.Tests.{eqb-true, eqb-false}
-use Rattle.algebra.specs.Lists.{keep, all, each, upto, entry, Every}
+use Rattle.algebra.specs.Lists.{keep, each, upto, entry, Every}
 use Rattle.algebra.specs.Value.{Row}
 use Rattle.algebra.specs.Plan.{Node, scan, select, compute, project, join, group, groupjoin, dependent, inputs}
 use Rattle.algebra.specs.Operators.{Outer, passes, computed, picked, grouped, joined, partners, join_rows, groupjoin_rows}
