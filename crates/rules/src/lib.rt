@@ -1,4 +1,5 @@
 #![tactic(auto)]
+
 pub mod reads; // the columns that each node reads, and a new domain's keys
 pub mod finish; // the nodes of a rule, once its inputs stand
 pub mod put; // a node under a domain

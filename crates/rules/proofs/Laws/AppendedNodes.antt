@@ -10,7 +10,6 @@ use Rattle.algebra.specs.Plan.{Node, compute, dependent, group, groupjoin, join,
 use Rattle.algebra.specs.Columns.{closed, reads_left}
 use Rattle.algebra.specs.Domains.{Domain, domain_keys, inner_domain, inside, move_aggregate, move_conjunct, shift, under_both, under_inner}
 use Rattle.algebra.specs.Rewriting.{Piece, Placed, dropping, emit, join_closed, join_open, join_under, open_under, unnest}
-use Rattle.rules.specs.Under.{put}
 
 -- ---- what is put goes behind what is there
 

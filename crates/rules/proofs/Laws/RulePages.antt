@@ -13,7 +13,7 @@ use Rattle.algebra.specs.Plan.{inner, semi, anti, left_outer, Node, project, gro
 use Rattle.algebra.specs.Domains.{around, span}
 use Rattle.algebra.specs.Rewriting.{Placed, emit, dropping}
 use Rattle.algebra.proofs.Lists.Keep.{map_append}
-use Rattle.plan.specs.Words.{operator, left, right, kind, first_item, item_count, items_from}
+use Rattle.plan.specs.Words.{operator, first_item, item_count, items_from}
 use Rattle.plan.specs.Items.{between}
 use Rattle.plan.specs.Plan.{kind_of}
 use Rattle.plan.specs.Encoding.{parts, all_items, position_words}
