@@ -17,7 +17,7 @@ loop-i-preserved c = let a = c.args in
       omega arith,
       simp length-set l.invariant.1,
       copied_more a.from.now a.at a.s.now a.to l.i l.s (omega arith) (omega arith)
-          l.invariant.2 _ (to_z-of_z w64 _ (search rules)),
+          l.invariant.2 _ (search (rules, to_z-of_z)),
     )
 
 pub shape_of-s : goal.shape_of-s
