@@ -1,5 +1,6 @@
 // The rewriter: a plan without dependent joins.
 #![tactic(auto)]
+
 mod steps; // closed nodes in number order
 
 ghost use Rattle.std.specs.Prelude.{◌≡◌, length};

@@ -15,7 +15,7 @@ use Rattle.algebra.specs.Columns.{Shape, shape_at}
 use Rattle.algebra.proofs.Lists.Same.{and_left, and_right}
 use Rattle.algebra.proofs.Lists.Every.{every_of}
 use Rattle.algebra.proofs.Domains.Keys.{upto_all}
-use Rattle.plan.specs.Words.{tables, nodes, table_width}
+use Rattle.plan.specs.Words.{tables, table_width}
 use Rattle.plan.specs.Plan.{widths_of}
 use Rattle.plan.specs.declared.Refusal.{Refusal}
 use Rattle.plan.specs.declared.Refusal.TheVariants.{Header, Limits, Malformed, Unused, TooWide, OpenTwice, NoColumn}

@@ -11,7 +11,6 @@ use borrow.Author.Tests.{ltb-true, ltb-false}
 use Rattle.algebra.specs.Lists.{done, upto}
 use Rattle.algebra.specs.Plan.{Node}
 use Rattle.algebra.specs.Columns.{Shape, closed, shape_at, shape_of, shapeless}
-use Rattle.algebra.specs.Domains.{inside}
 use Rattle.algebra.specs.Rewriting.{Piece, Placed, State, add_piece, closed_node, closed_put, missing, open_under, piece_at, rewritten, step, steps}
 use Rattle.algebra.specs.Statements.{Fine}
 use Rattle.algebra.proofs.Lists.Every.{every_in, every_map}
