@@ -1,5 +1,6 @@
 // What the programs read and print alike: words from standard input, refusals, listings.
 #![tactic(auto)]
+
 use plan::widths::work_out_widths;
 use plan::words::{item_count, items, kind, left, nodes, operator, right, wide};
 use plan::{Plan, Verdict};
