@@ -107,12 +107,13 @@ pub fn write_aggregates(
     to: usize,
     scratch: &mut [i64],
 ) -> bool
-    ghost s: { Space }
-    requires scratch_value { space cells.now scratch.old ≡ s }
-    requires aggregates { Aggregates words.now j count × (to + count ≤ length s.scratch) }
-    requires input { Input s.cells to b × Chosen b.count n found.now
+    requires aggregates { let s = space cells.now scratch.old in
+        Aggregates words.now j count × (to + count ≤ length s.scratch) }
+    requires input { let s = space cells.now scratch.old in
+        Input s.cells to b × Chosen b.count n found.now
         × InRange (map (row_of s.cells s.scratch b) (take n found.now)) }
-    ensures { Puts [] (aggregates (aggregates_from words.now j count)
+    ensures { let s = space cells.now scratch.old in
+        Puts [] (aggregates (aggregates_from words.now j count)
         (map (row_of s.cells s.scratch b) (take n found.now))) to s.scratch scratch.new result }
 {
     let mut i = 0;

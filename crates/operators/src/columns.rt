@@ -32,11 +32,11 @@ pub fn pick_rows(
     to: usize,
     scratch: &mut [i64],
 )
-    ghost s: { Space }
-    requires scratch_value { space cells.now scratch.old ≡ s }
-    requires before { Before s.cells to b × (b.count ≤ 4096) × (b.width ≤ 64)
+    requires { let s = space cells.now scratch.old in
+        Before s.cells to b × (b.count ≤ 4096) × (b.width ≤ 64)
         × (count ≤ 64) × (count ≤ length positions.now) × (to + b.count * count ≤ length s.scratch) }
-    ensures { scratch.new
+    ensures { let s = space cells.now scratch.old in
+        scratch.new
         ≡ written s.scratch to (cells_of (map (picked (take count positions.now)) (rows_of s.cells s.scratch b))) }
 {
     let mut i = 0;

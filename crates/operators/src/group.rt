@@ -32,13 +32,14 @@ pub fn group_all(
     found: &mut [u16],
     scratch: &mut [i64],
 ) -> Made
-    ghost s: { Space }
-    requires scratch_value { space cells.now scratch.old ≡ s }
-    requires count_bound { (j + count ≤ 2000) × (all aggregate_right (items_from words.now j count) ≡ true)
+    requires count_bound { let s = space cells.now scratch.old in
+        (j + count ≤ 2000) × (all aggregate_right (items_from words.now j count) ≡ true)
         × (to + count ≤ length s.scratch) × (1 ≤ limit) }
-    requires before { Before s.cells to b × (b.count ≤ 4096) × (b.width ≤ 64)
+    requires before { let s = space cells.now scratch.old in
+        Before s.cells to b × (b.count ≤ 4096) × (b.width ≤ 64)
         × InRange (rows_of s.cells s.scratch b) × (length found.old ≡ 4096) }
-    ensures { Makes limit (aggregates (aggregates_from words.now j count) (rows_of s.cells s.scratch b) ∷ [])
+    ensures { let s = space cells.now scratch.old in
+        Makes limit (aggregates (aggregates_from words.now j count) (rows_of s.cells s.scratch b) ∷ [])
         to s.scratch scratch.new result }
 {
     choose_all(found, b.count);
@@ -61,13 +62,14 @@ pub fn group_by(
     found: &mut [u16],
     scratch: &mut [i64],
 ) -> Made
-    ghost s: { Space }
-    requires scratch_value { space cells.now scratch.old ≡ s }
-    requires count_bound { (j + keys + count ≤ 2000) × (keys + count ≤ 64) × (all aggregate_right (items_from words.now (j + keys) count) ≡ true)
+    requires count_bound { let s = space cells.now scratch.old in
+        (j + keys + count ≤ 2000) × (keys + count ≤ 64) × (all aggregate_right (items_from words.now (j + keys) count) ≡ true)
         × (to + b.count * (keys + count) ≤ length s.scratch) × (b.count ≤ limit) × (limit ≤ 4096) }
-    requires before { Before s.cells to b × (b.width ≤ 64)
+    requires before { let s = space cells.now scratch.old in
+        Before s.cells to b × (b.width ≤ 64)
         × InRange (rows_of s.cells s.scratch b) × (length found.old ≡ 4096) }
-    ensures { Makes limit (groups_by (map position_of (items_from words.now j keys))
+    ensures { let s = space cells.now scratch.old in
+        Makes limit (groups_by (map position_of (items_from words.now j keys))
         (aggregates_from words.now (j + keys) count) (rows_of s.cells s.scratch b))
         to s.scratch scratch.new result }
 {

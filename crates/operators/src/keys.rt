@@ -29,10 +29,10 @@ pub fn pick_row(
     to: usize,
     scratch: &mut [i64],
 )
-    ghost s: { Space }
-    requires scratch_value { space cells.now scratch.old ≡ s }
-    requires input { Input s.cells to b × (i < b.count) × (count ≤ length positions.now) × (to + count ≤ length s.scratch) }
-    ensures { scratch.new
+    requires { let s = space cells.now scratch.old in
+        Input s.cells to b × (i < b.count) × (count ≤ length positions.now) × (to + count ≤ length s.scratch) }
+    ensures { let s = space cells.now scratch.old in
+        scratch.new
         ≡ written s.scratch to (map cell (picked (take count positions.now) (row_of s.cells s.scratch b i))) }
 {
     let mut k = 0;

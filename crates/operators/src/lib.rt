@@ -1,4 +1,5 @@
 #![tactic(auto)]
+
 pub mod outer; // outer rows
 pub mod made; // what an operator answers
 pub mod columns; // output columns
