@@ -1,5 +1,6 @@
 // Reads plan words from standard input, least byte first, rewrites the plan, and prints its nodes.
 #![tactic(auto)]
+
 use programs::{Input, Longest, list_front, print_refused, read_words};
 
 fn main() {

@@ -1,5 +1,6 @@
 // Reads a plan's text from standard input, rewrites the plan, and prints its nodes as the listing program does.
 #![tactic(auto)]
+
 use plan::words::wide;
 use programs::{Longest, list_front, print_refused};
 use text::{Read, Text, read_text};

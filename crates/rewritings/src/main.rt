@@ -3,6 +3,7 @@
 // A record is a name, the words of room in the output, and a plan's words; the name and the plan are each a byte count and that many bytes.
 // Numbers have their least byte first.
 #![tactic(auto)]
+
 ghost use Rattle.std.specs.Prelude.{◌≤◌, length};
 
 use input::least;

@@ -1,5 +1,6 @@
 // Reads plan words from standard input, least byte first, and prints their text.
 #![tactic(auto)]
+
 use plan::words::wide;
 use programs::{Input, Longest, STDOUT_FILENO, print_refused, read_words};
 use text::{Text, Written, write_text};

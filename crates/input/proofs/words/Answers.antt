@@ -1,10 +1,7 @@
 use borrow.Author.Rules.{rules}
-use mathlib.Core.Path.{◌≡◌, refl}
-use mathlib.Core.List.{◌++◌}
-use Prim.Native.Nat.{◌-◌, ◌≤◌}
+use mathlib.Core.Path.{refl}
 use native.Mathlib.Omega.{arith}
-use lib.ListN.{length, drop, length-set}
-use Rattle.input.specs.Bytes.{words_in}
+use lib.ListN.{length-set}
 use Rattle.input.proofs.Laws.{none_filled, more_filled, all_filled}
 use Rattle.input.proofs.words.Goals as goal
 

@@ -1,11 +1,8 @@
-use borrow.Author.Rules.{rules}
-use mathlib.Core.Path.{◌≡◌, refl}
+use mathlib.Core.Path.{◌≡◌}
 use mathlib.Core.List.{◌++◌}
 use Prim.Native.Nat.{◌-◌, ◌≤◌}
-use native.Mathlib.Omega.{arith}
-use lib.ListN.{length, drop, length-set}
+use lib.ListN.{length, drop}
 use Rattle.input.specs.Bytes.{words_in}
-use Rattle.input.proofs.Laws.{none_filled, more_filled, all_filled}
 use Rattle.input.proofs.words.Given as goal
 
 abbrev pub invariant-loop-k : goal.invariant-loop-k

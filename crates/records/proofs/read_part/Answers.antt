@@ -1,6 +1,5 @@
 use native.Mathlib.Omega.{arith}
 use lib.ListN.{length-append, length-take}
-use borrow.Author.Rules.{rules}
 use Rattle.records.proofs.read_part.Goals as goal
 
 pub slice_bounds-read_full-end-2 : goal.slice_bounds-read_full-end-2
