@@ -14,7 +14,8 @@ pub loop-i-init : goal.loop-i-init
 loop-i-init c = (search rules, refl)
 
 pub returns-then-not-in_range : goal.returns-then-not-in_range
-returns-then-not-in_range c = let l = c.loop-i in
+returns-then-not-in_range c =
+    let l = c.loop-i in
     one_fails (λ z. in_range (value z)) c.args.cells.now l.i _
     (to_z-of_z w64 _ (search rules)) c.in_range.ensures (ap not c.if-not-in_range.true) (omega arith)
 
@@ -27,5 +28,6 @@ loop-i-preserved c = let l = c.loop-i in (
 )
 
 pub returns : goal.returns
-returns c = let l = c.loop-i in
+returns c =
+    let l = c.loop-i in
     front_whole (λ z. in_range (value z)) c.args.cells.now l.i (pos 0) l.invariant.1 (omega arith)

@@ -1,9 +1,8 @@
 use mathlib.Core.Path.{refl, sym}
 use native.Mathlib.Omega.{arith}
 use lib.ListN.{length-set}
-use mir.Syntax.{w64}
 use mir.ValLaws.{to_z-of_z}
-use Rattle.store.proofs.Laws.Written.{copied_more, copied_all}
+use Rattle.store.proofs.Laws.Written.{copied_more}
 use Rattle.store.proofs.Laws.Cells.{written_nothing}
 use borrow.Author.Rules.{rules}
 use Rattle.store.proofs.cells.copy_cells.Goals as goal
@@ -12,18 +11,11 @@ pub loop-i-init : goal.loop-i-init
 loop-i-init c = (search rules, refl, sym (written_nothing _ c.args.to))
 
 pub loop-i-preserved : goal.loop-i-preserved
-loop-i-preserved c = let a = c.args in
+loop-i-preserved c =
+    let a = c.args in
     let l = c.loop-i in (
       omega arith,
       simp length-set l.invariant.1,
       copied_more a.from.now a.at a.s.now a.to l.i l.s (omega arith) (omega arith)
           l.invariant.2 _ (search (rules, to_z-of_z)),
     )
-
-pub shape_of-s : goal.shape_of-s
-shape_of-s c = c.loop-i.invariant.1
-
-pub returns : goal.returns
-returns c = let a = c.args in
-    let l = c.loop-i in
-    copied_all a.from.now a.at a.s.now a.to l.i a.count l.s c.loop-i-test.false l.invariant.0 l.invariant.2

@@ -4,7 +4,7 @@ use native.Mathlib.Omega.{arith}
 use lib.ListN.{length-set}
 use mir.Syntax.{w64}
 use mir.ValLaws.{to_z-of_z}
-use Rattle.store.proofs.Laws.Written.{copied_more, copied_all, copied_before}
+use Rattle.store.proofs.Laws.Written.{copied_more, copied_before}
 use Rattle.store.proofs.Laws.Cells.{written_nothing}
 use borrow.Author.Rules.{rules}
 use Rattle.store.proofs.cells.copy_within.Goals as goal
@@ -13,7 +13,8 @@ pub loop-i-init : goal.loop-i-init
 loop-i-init c = (search rules, refl, sym (written_nothing _ c.args.to))
 
 pub loop-i-preserved : goal.loop-i-preserved
-loop-i-preserved c = let a = c.args in
+loop-i-preserved c =
+    let a = c.args in
     let l = c.loop-i in (
       omega arith,
       simp length-set l.invariant.1,
@@ -22,11 +23,3 @@ loop-i-preserved c = let a = c.args in
           (to_z-of_z w64 _ (search rules) ∙ copied_before a.s.now a.at a.s.now a.to l.i l.s (a.at + l.i)
           l.invariant.2 (omega arith) (omega arith)),
     )
-
-pub shape_of-s : goal.shape_of-s
-shape_of-s c = c.loop-i.invariant.1
-
-pub returns : goal.returns
-returns c = let a = c.args in
-    let l = c.loop-i in
-    copied_all a.s.now a.at a.s.now a.to l.i a.count l.s c.loop-i-test.false l.invariant.0 l.invariant.2

@@ -1,13 +1,10 @@
-use mathlib.Core.Path.{refl, sym, ap, ◌∙◌}
+use mathlib.Core.Path.{refl, sym}
 use native.Mathlib.Omega.{arith}
-use lib.IntN.{ℤ}
-use lib.ListN.{replicate, length-set}
+use lib.ListN.{length-set}
 use mir.Syntax.{w64}
 use mir.Val.{to_z, of_z}
-use mir.ValLaws.{to_z-of_z}
 use borrow.Author.Rules.{rules}
-use Rattle.store.specs.Cells.{written}
-use Rattle.store.proofs.Laws.Written.{filled_more, filled_all}
+use Rattle.store.proofs.Laws.Written.{filled_more}
 use Rattle.store.proofs.Laws.Cells.{written_nothing}
 use Rattle.store.proofs.cells.fill.Goals as goal
 
@@ -22,13 +19,3 @@ loop-i-preserved c =
       simp length-set l.invariant.1,
       filled_more a.s.now a.to l.i (to_z w64 (of_z w64 a.x)) l.s (omega arith) l.invariant.2,
     )
-
-pub shape_of-s : goal.shape_of-s
-shape_of-s c = c.loop-i.invariant.1
-
-pub returns : goal.returns
-returns c =
-    let a = c.args in
-    let l = c.loop-i in
-    filled_all a.s.now a.to l.i a.count (to_z w64 (of_z w64 a.x)) l.s c.loop-i-test.false l.invariant.0 l.invariant.2
-    ∙ ap (λ (x : ℤ). written a.s.now a.to (replicate a.count x)) (to_z-of_z w64 a.x c.ranges.x)

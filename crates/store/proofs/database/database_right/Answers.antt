@@ -1,5 +1,3 @@
-use mathlib.Core.Path.{sym, ◌∙◌}
-use native.Mathlib.Omega.{arith}
 use Rattle.store.proofs.Laws.Tables.{counts_wrong, counts_high, cells_wrong, cells_decide}
 use mathlib.Core.Path.{ap}
 use mathlib.Core.Bool.{not}
@@ -10,9 +8,6 @@ returns-then-counts-wide c = counts_wrong _ _ _ c.tables.ensures c.wide.ensures 
 
 pub returns-then-not-counts_right : goal.returns-then-not-counts_right
 returns-then-not-counts_right c = counts_high _ _ _ c.counts_right.ensures (ap not c.if-not-counts_right.true)
-
-pub table_start-requires : goal.table_start-requires
-table_start-requires c = (c.requires, omega arith, omega arith, sym c.counts_right.ensures ∙ c.if-not-counts_right.false)
 
 pub returns-then-cells-table_start : goal.returns-then-cells-table_start
 returns-then-cells-table_start c = cells_wrong _ _ _ c.tables-2.ensures c.table_start.ensures.0 c.if-cells-table_start.true

@@ -1,20 +1,23 @@
-use mathlib.Core.Path.{refl, ◌∙◌}
+use mathlib.Core.Path.{◌∙◌}
 use native.Mathlib.Omega.{arith}
 use lib.ListN.{length-set}
 use Rattle.plan.proofs.Laws.Formed.{limited}
-use Rattle.store.proofs.Laws.Layouts.{counts_laid, filled_none, filled_more, filled_laid, area_small, read_at}
+use Rattle.store.proofs.Laws.Layouts.{counts_laid, filled_none, filled_more, area_small, read_at}
 use Rattle.store.proofs.layout.work_out_layout.Goals as goal
 
 pub write_counts-requires : goal.write_counts-requires
-write_counts-requires c = let p = c.requires in
+write_counts-requires c =
+    let p = c.requires in
     (omega (arith, p.1, (limited _ p.0.formed.sized).tables_few), p.6)
 
 pub widest_row-requires : goal.widest_row-requires
-widest_row-requires c = let p = c.requires in
+widest_row-requires c =
+    let p = c.requires in
     (p.4, omega (arith, (limited _ p.0.formed.sized).nodes_few))
 
 pub overflow_mul-area : goal.overflow_mul-area
-overflow_mul-area c = let p = c.requires in
+overflow_mul-area c =
+    let p = c.requires in
     omega (arith, area_small _ p.0 p.3 c.widest_row.ensures)
 
 pub loop-n-init : goal.loop-n-init
@@ -24,11 +27,13 @@ loop-n-init c = let p = c.requires in (
 )
 
 pub bounds-widths-wide : goal.bounds-widths-wide
-bounds-widths-wide c = let p = c.requires in
+bounds-widths-wide c =
+    let p = c.requires in
     omega (arith, (limited _ p.0.formed.sized).nodes_few)
 
 pub bounds-layout-at : goal.bounds-layout-at
-bounds-layout-at c = let p = c.requires in
+bounds-layout-at c =
+    let p = c.requires in
     omega (arith, (limited _ p.0.formed.sized).nodes_few)
 
 pub bounds-reaches-wide : goal.bounds-reaches-wide
@@ -53,9 +58,3 @@ loop-n-preserved c = (
       c.start.ensures.0
       c.start.ensures.1,
 )
-
-pub shape_of-layout : goal.shape_of-layout
-shape_of-layout c = omega (arith, c.loop-n.invariant.1.long, c.requires.6)
-
-pub returns : goal.returns
-returns c = filled_laid _ _ c.loop-n.invariant.1 (omega arith) c.widest_row.ensures refl
