@@ -5,7 +5,7 @@ ghost use Rattle.plan.specs.Words as spec;
 ghost use Rattle.plan.specs.Items.{aggregate_right, aggregate_of};
 ghost use Rattle.store.specs.Cells.{value, InRange};
 ghost use Rattle.store.specs.Rows.{row_of, Input};
-ghost use Rattle.operators.specs.Lent.{Space, space};
+ghost use Rattle.operators.specs.Lent.{space};
 ghost use Rattle.operators.specs.Choice.{There, Ranged, chosen, aggregates_from, in_order, Aggregates, Chosen};
 ghost use Rattle.operators.specs.Made.{Puts};
 

@@ -5,7 +5,7 @@ ghost use Rattle.plan.specs.Words.{items_from};
 ghost use Rattle.plan.specs.Items.{position_of};
 ghost use Rattle.store.specs.Cells.{cells_of, written};
 ghost use Rattle.store.specs.Rows.{Before, rows_of};
-ghost use Rattle.operators.specs.Lent.{Space, space};
+ghost use Rattle.operators.specs.Lent.{space};
 
 use crate::keys::pick_row;
 use plan::words::{position, wide};

@@ -6,7 +6,7 @@ ghost use Rattle.plan.specs.Words.{items_from};
 ghost use Rattle.plan.specs.Items.{aggregate_right, position_of};
 ghost use Rattle.store.specs.Cells.{InRange};
 ghost use Rattle.store.specs.Rows.{Before, rows_of};
-ghost use Rattle.operators.specs.Lent.{Space, space};
+ghost use Rattle.operators.specs.Lent.{space};
 ghost use Rattle.operators.specs.Choice.{aggregates_from};
 ghost use Rattle.operators.specs.Made.{Makes};
 

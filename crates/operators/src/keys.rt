@@ -5,7 +5,7 @@ ghost use Rattle.algebra.specs.Value.{null};
 ghost use Rattle.algebra.specs.Operators.{picked};
 ghost use Rattle.store.specs.Cells.{value, cell, written};
 ghost use Rattle.store.specs.Rows.{row_of, Input};
-ghost use Rattle.operators.specs.Lent.{Space, space};
+ghost use Rattle.operators.specs.Lent.{space};
 ghost use Rattle.operators.specs.Choice.{There, Below, same_key};
 
 use plan::words::wide;
