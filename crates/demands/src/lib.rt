@@ -1,1 +1,2 @@
 // The demands of the mission: definitions and proofs only.
+#![tactic(auto)]

@@ -2,6 +2,7 @@
 // the cells of those rows, and whether the rest of the output and scratch are as they should be.
 // A record is a name, the row limit, the cells of scratch and of output, the plan's words, the row counts, and the database cells, two words each.
 #![tactic(auto)]
+
 ghost use Rattle.std.specs.Prelude.{◌≤◌, ◌≡◌, length, take};
 ghost use Rattle.io.specs.Counts.{IsPrefixLen};
 

@@ -1,5 +1,6 @@
 // The C interface: each function answers a number of refusal, its node, and a count.
 #![tactic(auto)]
+
 ghost use Rattle.std.specs.Prelude.{◌≡◌, length};
 ghost use Rattle.plan.specs.Verdict.{verdict};
 ghost use Rattle.rewrite.specs.Answer.{rewriting, output_after};
