@@ -31,7 +31,8 @@ fn conjunct_count(words: &[u32], n: u32) -> u32
     count
 }
 
-// Select, map, project and group over their input.
+// Select, map, project and group over their input. A call of its own: put goes down once for each node, and its frame stays small.
+#[inline(never)]
 pub fn over_input(
     words: &[u32],
     n: u32,

@@ -1,4 +1,4 @@
--- sameRow decides equality.
+-- same_row decides equality.
 use mathlib.Core.Path.{◌∙◌, ◌≡◌, ap, refl, sym}
 use mathlib.Core.Bool.{Bool, ◌&&◌, and_assoc, false, true}
 use mathlib.Core.List.{[], ◌++◌, ◌∷◌}
@@ -20,7 +20,7 @@ pub and_right : (a b : Bool) → (a && b) ≡ true → b ≡ true
 and_right true b e = e
 and_right false b e = cc
 
--- ---- sameRow
+-- ---- same_row
 
 pub eq_z_eq : (a b : ℤ) → eq_z a b ≡ true → a ≡ b
 eq_z_eq (pos a) (pos b) e = ap pos (eqb-true a b e)
