@@ -2,45 +2,33 @@
 // A record is a name and a plan's words, each a byte count and that many bytes; counts and words have their least byte first.
 #![tactic(auto)]
 
-use plan::Verdict;
-use records::{RECORDS, STDOUT_FILENO, print_next, read_part};
+use input::words_from;
+use records::{Answer, RECORDS, print_name, read_part};
+use std::io;
+use std::io::{LineWriter, Write};
 
-fn print_answer(number: u32, node: u32) {
-    io::write_all(STDOUT_FILENO, b":");
-    print_next(number);
-    print_next(node);
-    io::write_all(STDOUT_FILENO, b"\n");
-}
-
-fn print_verdict(verdict: Verdict) {
-    match verdict {
-        Verdict::Accepted => print_answer(0, 0),
-        Verdict::Refused(refusal) => print_answer(refusal.number(), refusal.node()),
+fn answer(words: &[u32]) -> Answer {
+    match plan::check(words) {
+        Ok(()) => Answer::ACCEPTED,
+        Err(refusal) => Answer {
+            number: refusal.number(),
+            node: refusal.node(),
+        },
     }
 }
 
-// Reads a record, checks its plan and prints the answer; false where the input has no more, since every record has a name.
-fn answer_record(name: &mut [u8], bytes: &mut [u8], words: &mut [u32]) -> bool {
-    let letters = read_part(name);
-    if letters == 0 {
-        return false;
-    }
-    let count = read_part(bytes);
-    let found = input::words(&bytes[..count], words);
-    io::write_all(STDOUT_FILENO, &name[..letters]);
-    print_verdict(plan::check(&words[..found]));
-    true
-}
-
-fn main() {
-    let mut name = io::buffer();
-    let mut bytes = io::large_buffer();
+fn main(rt: HostRuntime) -> io::Result<()> {
+    let mut from = rt.reader();
+    let mut to = LineWriter::new(rt.alloc(), io::writer(&rt))?;
+    let mut name = [0u8; 4096];
+    let mut bytes = [0u8; 65536];
     let mut words = [0u32; 16384];
-    let mut left = RECORDS;
-    while 0 < left {
-        if !answer_record(&mut name, &mut bytes, &mut words) {
-            return;
+    for _ in 0..RECORDS {
+        if !print_name(&mut from, &mut to, &mut name)? {
+            break;
         }
-        left -= 1;
+        let words = words_from(read_part(&mut from, &mut bytes), &mut words);
+        writeln!(to, "{}", answer(words))?;
     }
+    to.flush()
 }

@@ -1,13 +1,13 @@
 // Reads plan words from standard input, least byte first, rewrites the plan, and prints its nodes.
 #![tactic(auto)]
 
-use programs::{Input, Longest, list_front, print_refused, read_words};
+use programs::{INPUT_WORDS, list, print_refused, read_words};
+use std::io;
 
-fn main() {
-    let mut words = [0u32; Longest::INPUT];
-    let found = read_words(&mut words);
-    match found {
-        Input::Words(count) => list_front(&words, count),
-        Input::NotWords => print_refused(1, 0),
+fn main(rt: HostRuntime) -> io::Result<()> {
+    let mut room = [0u32; INPUT_WORDS];
+    match read_words(&mut rt.reader(), &mut room) {
+        Some(words) => list(&rt, words),
+        None => print_refused(&rt, 1, 0),
     }
 }

@@ -16,3 +16,4 @@ pub mod Operands
 pub mod Partners
 pub mod Sorted
 pub mod Sums
+pub mod Tests

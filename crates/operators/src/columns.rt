@@ -7,41 +7,31 @@ ghost use Rattle.store.specs.Cells.{cells_of, written};
 ghost use Rattle.store.specs.Rows.{Before, rows_of};
 ghost use Rattle.operators.specs.Lent.{space};
 
+use crate::context::Items;
 use crate::keys::pick_row;
-use plan::words::{position, wide};
+use plan::words::position;
 use store::rows::Block;
 
-// The columns of count items from item j on.
-pub fn read_positions(words: &[u32], j: u32, count: u32, positions: &mut [u32])
-    requires { (j + count ≤ 2000) × (count ≤ length positions.old) }
-    ensures { take count positions.new ≡ map position_of (items_from words.now j count) }
+// The columns of items.
+pub fn read_positions(words: &[u32], items: Items, positions: &mut [u32])
+    requires { (items.first + items.count ≤ 2000) × (items.count ≤ length positions.old) }
+    ensures { take items.count positions.new ≡ map position_of (items_from words.now items.first items.count) }
 {
-    let mut i = 0;
-    while i < count {
-        positions[wide(i)] = position(words, j + i);
-        i += 1;
+    for i in 0..items.count {
+        positions[i as usize] = position(words, items.first + i);
     }
 }
 
-// The columns at count positions of every row.
-pub fn pick_rows(
-    cells: &[i64],
-    b: Block,
-    positions: &[u32],
-    count: usize,
-    to: usize,
-    scratch: &mut [i64],
-)
+// The columns at some positions of every row.
+pub fn pick_rows(cells: &[i64], b: Block, positions: &[u32], to: usize, scratch: &mut [i64])
     requires { let s = space cells.now scratch.old in
         Before s.cells to b × (b.count ≤ 4096) × (b.width ≤ 64)
-        × (count ≤ 64) × (count ≤ length positions.now) × (to + b.count * count ≤ length s.scratch) }
+        × (length positions.now ≤ 64) × (to + b.count * length positions.now ≤ length s.scratch) }
     ensures { let s = space cells.now scratch.old in
         scratch.new
-        ≡ written s.scratch to (cells_of (map (picked (take count positions.now)) (rows_of s.cells s.scratch b))) }
+        ≡ written s.scratch to (cells_of (map (picked positions.now) (rows_of s.cells s.scratch b))) }
 {
-    let mut i = 0;
-    while i < b.count {
-        pick_row(cells, b, i, positions, count, to + i * count, scratch);
-        i += 1;
+    for i in 0..b.count {
+        pick_row(cells, b, i, positions, to + i * positions.len(), scratch);
     }
 }

@@ -8,9 +8,8 @@ ghost use Rattle.store.specs.Rows.{row_of, Input};
 ghost use Rattle.operators.specs.Lent.{space};
 ghost use Rattle.operators.specs.Choice.{There, Below, same_key};
 
-use plan::words::wide;
 use store::cells::NULL;
-use store::rows::{Block, row, row_number};
+use store::rows::{Block, row};
 
 // The cell of column p of a row, null where there is none.
 fn cell_at(row: &[i64], p: usize) -> i64
@@ -19,46 +18,39 @@ fn cell_at(row: &[i64], p: usize) -> i64
     if p < row.len() { row[p] } else { NULL }
 }
 
-// The columns at count positions of row i of a block, written from place to on.
+// The columns at some positions of row i of a block, written from place to on.
 pub fn pick_row(
     cells: &[i64],
     b: Block,
     i: usize,
     positions: &[u32],
-    count: usize,
     to: usize,
     scratch: &mut [i64],
 )
     requires { let s = space cells.now scratch.old in
-        Input s.cells to b × (i < b.count) × (count ≤ length positions.now) × (to + count ≤ length s.scratch) }
+        Input s.cells to b × (i < b.count) × (to + length positions.now ≤ length s.scratch) }
     ensures { let s = space cells.now scratch.old in
         scratch.new
-        ≡ written s.scratch to (map cell (picked (take count positions.now) (row_of s.cells s.scratch b i))) }
+        ≡ written s.scratch to (map cell (picked positions.now (row_of s.cells s.scratch b i))) }
 {
-    let mut k = 0;
-    while k < count {
-        let lent = &scratch[..];
-        let x = cell_at(row(cells, lent, b, i), wide(positions[k]));
+    for k in 0..positions.len() {
+        let x = cell_at(row(cells, scratch, b, i), positions[k] as usize);
         scratch[to + k] = x;
-        k += 1;
     }
 }
 
-// Whether rows k and i have the same cells at count positions.
-fn same_key(rows: &[i64], width: usize, positions: &[u32], count: usize, k: usize, i: usize) -> bool
-    requires { (count ≤ length positions.now) × (k * width + width ≤ length rows.now) × (i * width + width ≤ length rows.now)
+// Whether rows k and i have the same cells at some positions.
+fn same_key(rows: &[i64], width: usize, positions: &[u32], k: usize, i: usize) -> bool
+    requires { (k * width + width ≤ length rows.now) × (i * width + width ≤ length rows.now)
         × (width ≤ 64) × (k < 4096) × (i < 4096) }
-    ensures { result ≡ same_key rows.now width (take count positions.now) k i }
+    ensures { result ≡ same_key rows.now width positions.now k i }
 {
     let a = &rows[k * width..k * width + width];
     let b = &rows[i * width..i * width + width];
-    let mut at = 0;
-    while at < count {
-        let p = wide(positions[at]);
-        if cell_at(a, p) != cell_at(b, p) {
+    for p in positions {
+        if cell_at(a, *p as usize) != cell_at(b, *p as usize) {
             return false;
         }
-        at += 1;
     }
     true
 }
@@ -74,33 +66,30 @@ pub fn split(
     rows: &[i64],
     width: usize,
     positions: &[u32],
-    count: usize,
     k: usize,
     rest: &mut [u16],
     n: usize,
     found: &mut [u16],
 ) -> Parts
-    requires count_in_bounds { (count ≤ length positions.now) × (width ≤ 64) × (k < 4096) × (k * width + width ≤ length rows.now) }
+    requires width_in_bounds { (width ≤ 64) × (k < 4096) × (k * width + width ≤ length rows.now) }
     requires n_in_bounds { (n ≤ length rest.old) × (n ≤ length found.old) × There rows.now width (take n rest.old) × Below 4096 (take n rest.old) }
     ensures { (take result.members found.new
-        ≡ keep (same_key rows.now width (take count positions.now) k) (take n rest.old))
+        ≡ keep (same_key rows.now width positions.now k) (take n rest.old))
         × (take result.others rest.new
-        ≡ keep (λ i. not (same_key rows.now width (take count positions.now) k i)) (take n rest.old))
+        ≡ keep (λ i. not (same_key rows.now width positions.now k i)) (take n rest.old))
         × (result.members ≤ n) × (result.others ≤ n) }
 {
     let mut members = 0;
     let mut others = 0;
-    let mut i = 0;
-    while i < n {
+    for i in 0..n {
         let x = rest[i];
-        if same_key(rows, width, positions, count, k, row_number(x)) {
+        if same_key(rows, width, positions, k, x as usize) {
             found[members] = x;
             members += 1;
         } else {
             rest[others] = x;
             others += 1;
         }
-        i += 1;
     }
     Parts { members, others }
 }

@@ -1,7 +1,8 @@
 #![tactic(auto)]
 
 pub mod outer; // outer rows
-pub mod made; // what an operator answers
+pub mod context; // what an operator is lent
+pub mod fault; // why an operator has made no rows
 pub mod columns; // output columns
 pub mod select; // select and map
 pub mod group; // group

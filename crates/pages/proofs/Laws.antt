@@ -5,5 +5,4 @@ pub mod Output
 pub mod Pages
 pub mod Sets
 pub mod SmallPositions
-pub mod Words
 pub mod Writer

@@ -1,10 +1,11 @@
 -- The words of the items that the rewriter writes.
 use Rattle.std.specs.Prelude.{◌≡◌, true, cond, List, [], ◌∷◌, ◌++◌, ℕ, ◌+◌, ◌<◌, eqb}
 use Rattle.algebra.specs.Plan.{Term, column, outer, constant, nothing}
-use Rattle.algebra.specs.Domains.{Domain, move_term}
+use Rattle.algebra.specs.Domains.{Domain, move_term, shift_both}
 use Rattle.plan.specs.Words.{Three, Item}
 use Rattle.plan.specs.Items.{position_of, term_of, term_right}
 use Rattle.plan.specs.Encoding.{term_words, unused, position_words}
+use Rattle.pages.specs.declared.shift.Shift.{Shift}
 
 -- an item as it stands
 abbrev pub item_words : Item → List ℕ
@@ -14,6 +15,10 @@ item_words x =
 -- a key, an output column or an aggregate whose column moved behind d others
 unfoldable pub shifted_words : ℕ → Item → List ℕ
 shifted_words d x = cond (eqb x.tag 13) (13 ∷ (unused ++ unused)) (position_words x.tag (d + position_of x))
+
+-- where the code's shift puts a column
+abbrev pub shifted : Shift → ℕ → ℕ
+shifted s = shift_both s.width s.front s.between
 
 -- a conjunct or a computation whose columns moved
 unfoldable pub moved_words : Domain → (ℕ → ℕ) → Item → List ℕ

@@ -1,13 +1,16 @@
--- What the code has written: nodes and items in two arrays, the widths of the nodes in a third.
-use Rattle.std.specs.Prelude.{◌≡◌, true, false, cond, ◌||◌, List, [], ◌∷◌, ◌++◌, ℕ, ◌+◌, ◌*◌, ◌<◌, ◌≤◌, eqb, length, get_or, take}
+-- What the code has written: the words of nodes and items, and the widths of the nodes.
+use Rattle.std.specs.Prelude.{◌≡◌, cond, ◌||◌, List, [], ◌∷◌, ◌++◌, ℕ, suc, ◌+◌, ◌≤◌, ◌<◌, eqb, length, get_or, take, Option, Some, None, Result, MatchResult}
 use Rattle.algebra.specs.Lists.{each}
 use Rattle.algebra.specs.Plan.{Node, scan, select, compute, project, join, group, groupjoin, dependent}
 use Rattle.algebra.specs.Columns.{shape_at}
 use Rattle.algebra.specs.Domains.{around}
 use Rattle.algebra.specs.Rewriting.{emit, dropping}
-use Rattle.plan.specs.Plan.{kind_of}
-use Rattle.plan.specs.Encoding.{parts, node_words, all_items}
-use Rattle.pages.specs.declared.page.Cursor.{Cursor}
+use Rattle.plan.specs.Codes.{number_of, meant_kind}
+use Rattle.plan.specs.Encoding.{kind_word, parts, node_words, all_items}
+use Rattle.plan.specs.declared.operator.Operator.{Operator}
+use Rattle.plan.specs.declared.kinds.JoinKind.{JoinKind}
+use Rattle.pages.specs.declared.page.Page.{Page}
+use Rattle.pages.specs.declared.page.OverLimits.{OverLimits}
 use Rattle.pages.specs.declared.page.Head.{Head}
 
 -- the nodes out and then the items xs of a next node are within the limits
@@ -16,30 +19,41 @@ pub record Fits (widths : List ℕ) (out : List Node) (xs : List (List ℕ)) : T
   pub items : length (all_items out) + length xs ≤ 2000
   pub rows : (i : ℕ) → (shape_at widths out i).width ≤ 64
 
--- the arrays hold the nodes out, their items and then the items xs of a next node
-pub record Holds (widths nodes items rows : List ℕ) (c : Cursor) (out : List Node) (xs : List (List ℕ)) : Type 0 where
+-- the page has the nodes out, their items and then the items xs of a next node
+pub record Holds (widths : List ℕ) (page : Page) (out : List Node) (xs : List (List ℕ)) : Type 0 where
   pub fits : Fits widths out xs
-  pub count : c.nodes ≡ length out
-  pub listed : c.items ≡ length (all_items out) + length xs
-  pub nodes_are : take (6 * c.nodes) nodes ≡ node_words 0 out
-  pub items_are : take (7 * c.items) items ≡ each (λ w. w) (all_items out ++ xs)
-  pub rows_are : (i : ℕ) → get_or rows i 0 ≡ (shape_at widths out i).width
+  pub count : page.node_count ≡ length out
+  pub listed : page.item_count ≡ length (all_items out) + length xs
+  pub nodes_are : each (λ w. w) (take page.node_count page.nodes) ≡ node_words 0 out
+  pub items_are : take page.item_count page.items ≡ all_items out ++ xs
+  pub rows_are : (i : ℕ) → get_or page.rows i 0 ≡ (shape_at widths out i).width
 
--- that, or it was too much
-pub record Page (widths nodes items rows : List ℕ) (c : Cursor) (out : List Node) (xs : List (List ℕ)) : Type 0 where
-  pub holds : c.ok ≡ true → Holds widths nodes items rows c out xs
-  pub over : c.ok ≡ false → Fits widths out xs → ⊥
+-- the page has got more items of the next node
+pub record Wrote (page page' : Page) (new : List (List ℕ)) : Type 0 where
+  pub holds : (widths : List ℕ) (out : List Node) (xs : List (List ℕ)) → Holds widths page out xs → Holds widths page' out (xs ++ new)
 
--- more items of the next node
-abbrev pub Added : List ℕ → List ℕ → Cursor → Cursor → List (List ℕ) → Type 0
-Added items items' c c' new =
-    (widths nodes rows : List ℕ) (out : List Node) (xs : List (List ℕ)) → Page widths nodes items rows c out xs → Page widths nodes items' rows c' out (xs ++ new)
+-- they would be too much
+pub record Missed (page : Page) (new : List (List ℕ)) : Type 0 where
+  pub over : (widths : List ℕ) (out : List Node) (xs : List (List ℕ)) → Holds widths page out xs → Fits widths out (xs ++ new) → ⊥
+
+abbrev pub Added : Page → Page → Result Unit OverLimits → List (List ℕ) → Type 0
+Added page page' result new = MatchResult result (λ _. Wrote page page' new) (λ _. Missed page new)
+
+-- the page has the nodes out, of which the result is the last, or it would be too much
+abbrev pub Leaves : List ℕ → Page → List Node → Result ℕ OverLimits → Type 0
+Leaves widths page out result =
+    MatchResult result (λ number. Holds widths page out [] × (suc number ≡ length out)) (λ _. Fits widths out [] → ⊥)
 
 -- ---- one node more
 
--- a node's words without its items
-abbrev pub head_of : ℕ → ℕ → ℕ → ℕ → Head
+-- a node without its items
+abbrev pub head_of : Operator → ℕ → ℕ → Option JoinKind → Head
 head_of o l r k = record { operator = o; left = l; right = r; kind = k }
+
+-- the word of its kind, 0 where it has none
+abbrev pub kind_number : Option JoinKind → ℕ
+kind_number None = 0
+kind_number (Some k) = kind_word (meant_kind k)
 
 -- the width of a node with operator o, inputs l and r, kind k and count items; extra is a scan's table width, a groupjoin's number of aggregates
 unfoldable pub width_by : (ℕ → ℕ) → ℕ → ℕ → ℕ → ℕ → ℕ → ℕ → ℕ
@@ -62,37 +76,23 @@ extra_of widths (groupjoin cs gs l r) = length gs
 extra_of widths (dependent k cs l r) = 0
 
 -- node n is written with this head, behind out; first is where its items begin
-pub record Headed (widths : List ℕ) (out : List Node) (c : Cursor) (first : ℕ) (head : Head) (extra : ℕ) (n : Node) : Type 0 where
-  pub operator : head.operator ≡ (parts n).operator
+pub record Headed (widths : List ℕ) (out : List Node) (first : ℕ) (head : Head) (extra : ℕ) (n : Node) : Type 0 where
+  pub operator : number_of head.operator ≡ (parts n).operator
   pub left : head.left ≡ (parts n).left
   pub right : head.right ≡ (parts n).right
-  pub kind : head.kind ≡ (parts n).kind
+  pub kind : kind_number head.kind ≡ (parts n).kind
   pub extra_is : extra ≡ extra_of widths n
-  pub first_is : c.ok ≡ true → first ≡ length (all_items out)
+  pub first_is : first ≡ length (all_items out)
 
-abbrev pub Pushed : List ℕ → List ℕ → List ℕ → List ℕ → Cursor → Cursor → ℕ → Head → ℕ → Type 0
-Pushed nodes nodes' rows rows' c c' first head extra =
-    (widths items : List ℕ) (out : List Node) (n : Node) → Page widths nodes items rows c out (parts n).items → Headed widths out c first head extra n
-    → Page widths nodes' items rows' c' (out ++ (n ∷ [])) []
+pub record Pushed (page page' : Page) (result : Result ℕ OverLimits) (first : ℕ) (head : Head) (extra : ℕ) : Type 0 where
+  pub written : (widths : List ℕ) (out : List Node) (n : Node) → Holds widths page out (parts n).items → Headed widths out first head extra n
+      → Leaves widths page' (out ++ (n ∷ [])) result
 
 -- ---- what has been written before a call and after it
 
-pub record Sheet : Type 0 where
-  pub nodes : List ℕ
-  pub items : List ℕ
-  pub rows : List ℕ
-  pub cursor : Cursor
-
-abbrev pub sheet : List ℕ → List ℕ → List ℕ → Cursor → Sheet
-sheet nodes items rows c = record { nodes = nodes; items = items; rows = rows; cursor = c }
-
--- the sheet has the nodes out, or it was too much
-abbrev pub Carries : List ℕ → Sheet → List Node → Type 0
-Carries widths s out = Page widths s.nodes s.items s.rows s.cursor out []
-
 -- the nodes out have become f out
-abbrev pub Grows : Sheet → Sheet → (List Node → List Node) → Type 0
-Grows s s' f = (widths : List ℕ) (out : List Node) → Carries widths s out → Carries widths s' (f out)
+pub record Grows (page page' : Page) (result : Result ℕ OverLimits) (f : List Node → List Node) : Type 0 where
+  pub written : (widths : List ℕ) (out : List Node) → Holds widths page out [] → Leaves widths page' (f out) result
 
 -- node i is there and has width w
 pub record Stands (widths : List ℕ) (out : List Node) (i w : ℕ) : Type 0 where
@@ -100,14 +100,13 @@ pub record Stands (widths : List ℕ) (out : List Node) (i w : ℕ) : Type 0 whe
   pub width : (shape_at widths out i).width ≡ w
 
 -- the same over the widths of one plan's tables
-abbrev pub GrowsOver : List ℕ → Sheet → Sheet → (List Node → List Node) → Type 0
-GrowsOver widths s s' f = (out : List Node) → Carries widths s out → Carries widths s' (f out)
+pub record GrowsOver (widths : List ℕ) (page page' : Page) (result : Result ℕ OverLimits) (f : List Node → List Node) : Type 0 where
+  pub written : (out : List Node) → Holds widths page out [] → Leaves widths page' (f out) result
 
--- the join that is the last node has its project behind it, where its kind has one
-abbrev pub Drops : ℕ → ℕ → ℕ → ℕ → Sheet → Sheet → Type 0
-Drops k n m w s s' =
-    (widths : List ℕ) (out : List Node) (x : Node) → Carries widths s (out ++ (x ∷ []))
-    → Carries widths s' (dropping (kind_of k) (around n m w) (emit x out)).out
+-- the join at i, which is the last node, has its project behind it, where its kind has one
+pub record Drops (k : JoinKind) (n m w i : ℕ) (page page' : Page) (result : Result ℕ OverLimits) : Type 0 where
+  pub written : (widths : List ℕ) (out : List Node) (x : Node) → Holds widths page (out ++ (x ∷ [])) [] → i ≡ length out
+      → Leaves widths page' (dropping (meant_kind k) (around n m w) (emit x out)).out result
 
 -- ---- whole plans
 
@@ -122,6 +121,6 @@ copy_of images (group ks gs i) = group ks gs (images i)
 copy_of images (groupjoin cs gs l r) = groupjoin cs gs (images l) (images r)
 copy_of images (dependent k cs l r) = join k cs (images l) (images r)
 
--- the arrays hold the whole plan ns, or it is over a limit
-abbrev pub Finished : List ℕ → List Node → List ℕ → List ℕ → Cursor → Type 0
-Finished widths ns nodes items c = (rows : List ℕ) × Page widths nodes items rows c ns []
+-- the page has the whole plan ns, or it is over a limit
+abbrev pub Finished : List ℕ → List Node → Page → Result Unit OverLimits → Type 0
+Finished widths ns page result = MatchResult result (λ _. Holds widths page ns []) (λ _. Fits widths ns [] → ⊥)

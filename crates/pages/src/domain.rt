@@ -1,93 +1,85 @@
-// A domain: its node, its width, and for each level around a set and the width in front of it, over 64 where the level is not read.
-ghost use Rattle.std.specs.Prelude.{◌≡◌, ◌<◌};
+// A domain: its node, its width, and for each level around the columns that it keeps of it; None where the level is not read.
+ghost use Rattle.std.specs.Prelude.{◌≡◌, ◌<◌, ◌≤◌};
 ghost use Rattle.algebra.specs.Domains as algebra;
-ghost use Rattle.pages.specs.Sets as sets;
-ghost use Rattle.pages.specs.Domains as spec;
-ghost use Rattle.pages.specs.Domains.{place_in, Means, Inner};
 
-use crate::sets::{ALL, BITS, rank};
-use plan::Plan;
-use plan::words::wide;
+use crate::sets::ColumnSet;
 
-// The width in front of a level that is not read: no row is so wide.
-const UNREAD: u32 = Plan::WIDTH + 1;
+// A level that is read: which columns are kept of what was there, and the width in front of the level's own row.
+#[derive(Clone, Copy, Debug, PartialEq, Eq)]
+pub struct Level {
+    pub columns: ColumnSet,
+    pub base: u32,
+    pub ghost narrow: { base ≤ 64 },
+}
 
-#[derive(Clone, Copy)]
+#[derive(Clone, Copy, Debug, PartialEq, Eq)]
 pub struct Domain {
     pub node: u32,
     pub width: u32,
-    pub sets: [u64; 8],
-    pub bases: [u32; 8],
+    pub levels: [Option<Level>; 8],
+    pub ghost narrow: { width ≤ 64 },
 }
 
-// No domain at all.
-pub fn outside() -> Domain
-    ensures { Means result algebra.outside }
-{
-    Domain {
-        node: 0,
-        width: 0,
-        sets: [0; 8],
-        bases: [0; 8],
+impl Domain {
+    ghost use Rattle.pages.specs.Domains.{place_in, Means, Inner, Deeper};
+
+    // No domain at all.
+    pub fn outside() -> Domain
+        ensures { Means result algebra.outside }
+    {
+        Domain {
+            node: 0,
+            width: 0,
+            levels: [None; 8],
+        }
     }
-}
 
-// Where a column stands before the set of its level.
-fn start(base: u32, position: u32) -> u32
-    requires { position < 1000 }
-    ensures { result ≡ spec.start base position }
-{
-    if base <= Plan::WIDTH {
-        return base + position;
+    // Where the column at a position of a level stands.
+    pub fn place(&self, level: u32, position: u32) -> u32
+        requires { (level < 8) × (position < 1000) }
+        ensures { result ≡ place_in self.now level position }
+    {
+        let own = level as usize;
+        let Some(read) = self.levels[own] else {
+            return 0;
+        };
+        let mut place = read.columns.rank(read.base + position);
+        for l in (0..own).rev() {
+            if let Some(read) = self.levels[l] {
+                place = read.columns.rank(place);
+            }
+        }
+        place
     }
-    0
-}
 
-// Where the column at a position of a level stands.
-pub fn place(d: Domain, level: u32, position: u32) -> u32
-    requires { (level < 8) × (position < 1000) }
-    ensures { result ≡ place_in d level position }
-{
-    let sets = d.sets;
-    let bases = d.bases;
-    let mut q = start(bases[wide(level)], position);
-    q = rank(sets[wide(level)], q);
-    let mut l = level;
-    while 0 < l {
-        l -= 1;
-        q = rank(sets[wide(l)], q);
+    // One level more in front.
+    fn deeper(&self, node: u32, width: u32, level: Option<Level>) -> Domain
+        requires { width ≤ 64 }
+        ensures { Deeper self.now result node width level }
+    {
+        let [a, b, c, d, e, f, g, _] = self.levels;
+        Domain {
+            node,
+            width,
+            levels: [level, a, b, c, d, e, f, g],
+        }
     }
-    q
-}
 
-// One level more in front: what the row of a new level keeps, and the width in front of it.
-fn deeper(d: Domain, node: u32, width: u32, set: u64, base: u32) -> Domain
-    ensures { Inner d result node width set base }
-{
-    let sets = d.sets;
-    let bases = d.bases;
-    Domain {
-        node,
-        width,
-        sets: [
-            set, sets[0], sets[1], sets[2], sets[3], sets[4], sets[5], sets[6],
-        ],
-        bases: [
-            base, bases[0], bases[1], bases[2], bases[3], bases[4], bases[5], bases[6],
-        ],
+    // The domain that node gives, over the columns of set.
+    pub fn inner(&self, node: u32, set: ColumnSet) -> Domain
+        ensures { Inner self.now result node set }
+    {
+        let level = Level {
+            columns: set,
+            base: self.width,
+        };
+        self.deeper(node, set.len(), Some(level))
     }
-}
 
-// The domain that node gives, over the columns of set.
-pub fn inner(d: Domain, node: u32, set: u64) -> Domain
-    ensures { Inner d result node (sets.rank set 64) set d.width }
-{
-    deeper(d, node, rank(set, BITS), set, d.width)
-}
-
-// The same domain inside a dependent join whose left row is not read.
-pub fn inside(d: Domain) -> Domain
-    ensures { (D : algebra.Domain) → Means d D → Means result (algebra.inside D) }
-{
-    deeper(d, d.node, d.width, ALL, UNREAD)
+    // The same domain inside a dependent join whose left row is not read.
+    pub fn inside(&self) -> Domain
+        ensures { (D : algebra.Domain) → Means self.now D → Means result (algebra.inside D) }
+    {
+        self.deeper(self.node, self.width, None)
+    }
 }

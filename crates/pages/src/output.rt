@@ -4,31 +4,37 @@ ghost use Rattle.plan.specs.Words as spec;
 ghost use Rattle.plan.specs.Words.{total};
 ghost use Rattle.pages.specs.Output.{table, Writable};
 
-use crate::page::{Cursor, ItemWords, NodeWords};
-use crate::words::copy_words;
-use plan::words::{tables, wide};
+use crate::page::Page;
+use plan::words::tables;
 
-// How many words a plan with the tables of words and so many nodes and items has.
-pub fn total_words(words: &[u32], c: Cursor) -> usize
-    ensures { result ≡ total (spec.tables words.now) c.nodes c.items }
-{
-    8 + wide(tables(words)) + 6 * wide(c.nodes) + 7 * wide(c.items)
-}
+impl Page {
+    // How many words a plan with the tables of words and what is written has.
+    pub fn total_words(&self, words: &[u32]) -> usize
+        ensures { result ≡ total (spec.tables words.now) self.now.node_count self.now.item_count }
+    {
+        8 + tables(words) as usize + 6 * self.node_count as usize + 7 * self.item_count as usize
+    }
 
-// Header, table widths, nodes and items.
-pub fn write_table(words: &[u32], c: Cursor, nodes: &NodeWords, items: &ItemWords, out: &mut [u32])
-    requires { Writable words.now c.nodes c.items (length out.old) }
-    ensures { out.new ≡ table words.now c.nodes c.items nodes.now items.now
-        ++ drop (total (spec.tables words.now) c.nodes c.items) out.old }
-{
-    let t = tables(words);
-    let n = c.nodes;
-    let i = c.items;
-    let at_nodes = 8 + t;
-    let at_items = at_nodes + 6 * n;
-    let header = [at_items + 7 * i, t, 8, n, at_nodes, i, at_items, 0];
-    copy_words(out, 0, &header, 8);
-    copy_words(out, 8, &words[8..], wide(t));
-    copy_words(out, wide(at_nodes), nodes, 6 * wide(n));
-    copy_words(out, wide(at_items), items, 7 * wide(i));
+    // Header, table widths, nodes and items.
+    pub fn write_table(&self, words: &[u32], out: &mut [u32])
+        requires { Writable words.now self.now.node_count self.now.item_count (length out.old) }
+        ensures { out.new ≡ table words.now self.now
+            ++ drop (total (spec.tables words.now) self.now.node_count self.now.item_count) out.old }
+    {
+        let t = tables(words);
+        let n = self.node_count;
+        let i = self.item_count;
+        let at_nodes = 8 + t;
+        let at_items = at_nodes + 6 * n;
+        let total = at_items + 7 * i;
+        let header = [total, t, 8, n, at_nodes, i, at_items, 0];
+        out[..8].copy_from_slice(&header);
+        out[8..at_nodes as usize].copy_from_slice(&words[8..at_nodes as usize]);
+        out[at_nodes as usize..at_items as usize].copy_from_slice(
+            self.nodes[..n as usize].as_flattened(),
+        );
+        out[at_items as usize..total as usize].copy_from_slice(
+            self.items[..i as usize].as_flattened(),
+        );
+    }
 }

@@ -1,36 +1,23 @@
-// What has been written: how many nodes and items, and whether all of it is within the limits.
-ghost use Rattle.std.specs.Prelude.{◌≡◌, false, [], ◌∷◌, ◌-◌, pred, get_or};
-ghost use Rattle.pages.specs.Pages.{Added, width_by, head_of, Pushed};
+// What has been written: nodes, their widths and items, in fixed memory, within the limits.
+ghost use Rattle.std.specs.Prelude.{◌≡◌, [], ◌∷◌, List, ℕ, get_or};
+ghost use Rattle.plan.specs.Codes.{number_of};
+ghost use Rattle.pages.specs.Pages.{Holds, Added, width_by, head_of, kind_number, Pushed};
 
-use crate::words::copy_words;
-use plan::words::wide;
+use plan::kinds::JoinKind;
+use plan::operator::Operator;
 use plan::{PerNode, Plan};
 
-// The words of all nodes and of all items that there may be.
-pub type NodeWords = [u32; 6 * Plan::NODES as usize];
+// The words of all nodes and of all items that there may be, in fixed memory: there is no heap.
+pub type NodeWords = [[u32; 6]; Plan::NODES as usize];
 
-pub type ItemWords = [u32; 7 * Plan::ITEMS as usize];
+pub type ItemWords = [[u32; 7]; Plan::ITEMS as usize];
 
 // The widest row.
 const WIDEST: usize = Plan::WIDTH as usize;
 
-#[derive(Clone, Copy)]
-pub struct Cursor {
-    pub nodes: u32,
-    pub items: u32,
-    pub ok: bool,
-}
-
-// The same, and what comes next is over a limit.
-fn too_much(c: Cursor) -> Cursor
-    ensures { (result.nodes ≡ c.nodes) × (result.items ≡ c.items) × (result.ok ≡ false) }
-{
-    Cursor {
-        nodes: c.nodes,
-        items: c.items,
-        ok: false,
-    }
-}
+// What comes next is over a limit.
+#[derive(Clone, Copy, Debug, PartialEq, Eq)]
+pub struct OverLimits;
 
 // The three words of a term.
 #[derive(Clone, Copy)]
@@ -40,179 +27,179 @@ pub struct Three {
     pub value: u32,
 }
 
-// One item more.
-pub fn push_item(items: &mut ItemWords, c: Cursor, tag: u32, first: Three, second: Three) -> Cursor
-    ensures { Added items.old items.new c result
-        ((tag ∷ first.code ∷ first.level ∷ first.value ∷ second.code ∷ second.level ∷ second.value ∷ []) ∷ []) }
-{
-    if !c.ok {
-        return c;
-    }
-    let i = c.items;
-    if Plan::ITEMS <= i {
-        return too_much(c);
-    }
-    let item = [
-        tag,
-        first.code,
-        first.level,
-        first.value,
-        second.code,
-        second.level,
-        second.value,
-    ];
-    copy_words(items, 7 * wide(i), &item, 7);
-    Cursor {
-        nodes: c.nodes,
-        items: i + 1,
-        ok: true,
+impl Three {
+    // A local column.
+    pub fn local(position: u32) -> Three
+        ensures { (result.code ≡ 0) × (result.level ≡ 0) × (result.value ≡ position) }
+    {
+        Three {
+            code: 0,
+            level: 0,
+            value: position,
+        }
     }
 }
 
-// A node's words without its items.
+// A node without its items; a join alone has a kind.
 #[derive(Clone, Copy)]
 pub struct Head {
-    pub operator: u32,
+    pub operator: Operator,
     pub left: u32,
     pub right: u32,
-    pub kind: u32,
+    pub kind: Option<JoinKind>,
 }
 
 impl Head {
+    ghost use Rattle.std.specs.Prelude.{None, Some};
+    ghost use Rattle.plan.specs.declared.operator.Operator.TheVariants.{Scan, Join, Groupjoin};
+
     pub fn scan(table: u32) -> Head
-        ensures { result ≡ head_of 1 table 0 0 }
+        ensures { result ≡ head_of Scan table 0 None }
     {
         Head {
-            operator: 1,
+            operator: Operator::Scan,
             left: table,
             right: 0,
-            kind: 0,
+            kind: None,
         }
     }
 
     // Select, map, project and group.
-    pub fn over(operator: u32, input: u32) -> Head
-        ensures { result ≡ head_of operator input 0 0 }
+    pub fn over(operator: Operator, input: u32) -> Head
+        ensures { result ≡ head_of operator input 0 None }
     {
         Head {
             operator,
             left: input,
             right: 0,
-            kind: 0,
+            kind: None,
         }
     }
 
-    pub fn join(kind: u32, left: u32, right: u32) -> Head
-        ensures { result ≡ head_of 5 left right kind }
+    pub fn join(kind: JoinKind, left: u32, right: u32) -> Head
+        ensures { result ≡ head_of Join left right (Some kind) }
     {
         Head {
-            operator: 5,
+            operator: Operator::Join,
             left,
             right,
-            kind,
+            kind: Some(kind),
         }
     }
 
     pub fn groupjoin(left: u32, right: u32) -> Head
-        ensures { result ≡ head_of 7 left right 0 }
+        ensures { result ≡ head_of Groupjoin left right None }
     {
         Head {
-            operator: 7,
+            operator: Operator::Groupjoin,
             left,
             right,
-            kind: 0,
+            kind: None,
         }
     }
-}
 
-// The width of node i, 0 where there is none.
-fn row(rows: &[u32], i: u32) -> usize
-    ensures { result ≡ get_or rows.now i 0 }
-{
-    let n = wide(i);
-    if n < rows.len() {
-        return wide(rows[n]);
-    }
-    0
-}
-
-// The width of a new node with count items; extra is a scan's table width, a groupjoin's number of aggregates.
-fn new_width(rows: &[u32], head: Head, count: u32, extra: u32) -> usize
-    ensures { result ≡ width_by (λ i. get_or rows.now i 0) head.operator head.left head.right head.kind count extra }
-{
-    let o = head.operator;
-    let k = head.kind;
-    let l = row(rows, head.left);
-    match o {
-        1 => wide(extra),
-        2 => l,
-        3 => l + 1,
-        4 | 6 => wide(count),
-        7 => l + wide(extra),
-        _ => match k {
-            2 | 3 => l,
-            _ => l + row(rows, head.right),
-        },
+    // The number of its kind, 0 where it has none.
+    fn kind_number(self) -> u32
+        ensures { result ≡ kind_number self.kind }
+    {
+        self.kind.map_or(0, |kind| kind.number())
     }
 }
 
-// How many items there are from item first on, where there are n in all.
-fn items_from(first: u32, n: u32) -> u32
-    ensures { result ≡ n - first }
-{
-    if first <= n {
-        return n - first;
-    }
-    0
+#[derive(Drop)]
+pub struct Page {
+    pub nodes: NodeWords,
+    pub rows: PerNode,
+    pub items: ItemWords,
+    pub node_count: u32,
+    pub item_count: u32,
 }
 
-// One node more, with the items from item first on.
-pub fn push_node(
-    nodes: &mut NodeWords,
-    rows: &mut PerNode,
-    c: Cursor,
-    first: u32,
-    head: Head,
-    extra: u32,
-) -> Cursor
-    ensures { Pushed nodes.old nodes.new rows.old rows.new c result first head extra }
-{
-    if !c.ok {
-        return c;
+impl Page {
+    // Nothing is written.
+    pub fn new() -> Page
+        ensures { (widths : List ℕ) → Holds widths result [] [] }
+    {
+        Page {
+            nodes: [[0; 6]; Plan::NODES as usize],
+            rows: [0; Plan::NODES as usize],
+            items: [[0; 7]; Plan::ITEMS as usize],
+            node_count: 0,
+            item_count: 0,
+        }
     }
-    let n = c.nodes;
-    let count = items_from(first, c.items);
-    let w = new_width(rows, head, count, extra);
-    if Plan::NODES <= n {
-        return too_much(c);
-    }
-    if WIDEST < w {
-        return too_much(c);
-    }
-    let node = [
-        head.operator,
-        head.left,
-        head.right,
-        head.kind,
-        first,
-        count,
-    ];
-    copy_words(nodes, 6 * wide(n), &node, 6);
-    rows[wide(n)] = w as u32;
-    Cursor {
-        nodes: n + 1,
-        items: c.items,
-        ok: true,
-    }
-}
 
-// The number of the last node.
-pub fn last(c: Cursor) -> u32
-    ensures { result ≡ pred c.nodes }
-{
-    let n = c.nodes;
-    if 0 < n {
-        return n - 1;
+    // One item more of the next node.
+    pub fn push_item(&mut self, tag: u32, first: Three, second: Three) -> Result<(), OverLimits>
+        ensures { Added self.old self.new result
+            ((tag ∷ first.code ∷ first.level ∷ first.value ∷ second.code ∷ second.level ∷ second.value ∷ []) ∷ []) }
+    {
+        let i = self.item_count;
+        if Plan::ITEMS <= i {
+            return Err(OverLimits);
+        }
+        self.items[i as usize] = [
+            tag,
+            first.code,
+            first.level,
+            first.value,
+            second.code,
+            second.level,
+            second.value,
+        ];
+        self.item_count = i + 1;
+        Ok(())
     }
-    0
+
+    // The width of node i, 0 where there is none.
+    fn row(&self, i: u32) -> u32
+        ensures { result ≡ get_or self.now.rows i 0 }
+    {
+        self.rows.get(i as usize).copied().unwrap_or(0)
+    }
+
+    // The width of a new node with count items; extra is a scan's table width, a groupjoin's number of aggregates.
+    #[tactic(auto, unfolding(crate::specs::Pages::width_by))]
+    fn new_width(&self, head: Head, count: u32, extra: u32) -> usize
+        ensures { result ≡ width_by (λ i. get_or self.now.rows i 0) (number_of head.operator) head.left head.right (kind_number head.kind) count extra }
+    {
+        let left = self.row(head.left) as usize;
+        match head.operator {
+            Operator::Scan => extra as usize,
+            Operator::Select => left,
+            Operator::Map => left + 1,
+            Operator::Project | Operator::Group => count as usize,
+            Operator::Groupjoin => left + extra as usize,
+            Operator::Join | Operator::Dependent => match head.kind {
+                Some(JoinKind::Semi | JoinKind::Anti) => left,
+                _ => left + self.row(head.right) as usize,
+            },
+        }
+    }
+
+    // One node more, with the items from item first on: its number.
+    pub fn push_node(&mut self, first: u32, head: Head, extra: u32) -> Result<u32, OverLimits>
+        ensures { Pushed self.old self.new result first head extra }
+    {
+        let n = self.node_count;
+        let count = self.item_count.saturating_sub(first);
+        let width = self.new_width(head, count, extra);
+        if Plan::NODES <= n {
+            return Err(OverLimits);
+        }
+        if WIDEST < width {
+            return Err(OverLimits);
+        }
+        self.nodes[n as usize] = [
+            head.operator.number(),
+            head.left,
+            head.right,
+            head.kind_number(),
+            first,
+            count,
+        ];
+        self.rows[n as usize] = width as u32;
+        self.node_count = n + 1;
+        Ok(n)
+    }
 }

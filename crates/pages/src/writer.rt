@@ -8,85 +8,15 @@ ghost use Rattle.plan.specs.Encoding.{term_words, conjunct_words, position_words
 ghost use Rattle.pages.specs.Sets.{members};
 ghost use Rattle.pages.specs.Domains.{Means};
 ghost use Rattle.pages.specs.Pages.{Added};
-ghost use Rattle.pages.specs.Items.{item_words, shifted_words, moved_words, Near, Movable};
+ghost use Rattle.pages.specs.Items.{item_words, shifted_words, moved_words, shifted, Near, Movable};
 
-use crate::domain::{Domain, place};
-use crate::page::{Cursor, ItemWords, Three, push_item};
-use crate::sets::{BITS, has};
+use crate::domain::Domain;
+use crate::page::{OverLimits, Page, Three};
+use crate::sets::ColumnSet;
+use crate::shift::Shift;
+use plan::tags::{COPY, COUNT, KEY, SAME};
 use plan::terms::{Term, first_term, second_term};
 use plan::words::{item_word, position, tag};
-
-// A local column.
-fn local(position: u32) -> Three
-    ensures { (result.code ≡ 0) × (result.level ≡ 0) × (result.value ≡ position) }
-{
-    Three {
-        code: 0,
-        level: 0,
-        value: position,
-    }
-}
-
-// A tag 7 for each of count columns, the other one behind others.
-pub fn matches(items: &mut ItemWords, c: Cursor, count: u32, behind: u32) -> Cursor
-    requires { (count ≤ 64) × (behind ≤ 1000) }
-    ensures { Added items.old items.new c result (map conjunct_words (algebra.match (λ q. q) (λ q. behind + q) (upto count))) }
-{
-    let mut c = c;
-    let mut i = 0;
-    while i < count {
-        c = push_item(items, c, 7, local(i), local(behind + i));
-        i += 1;
-    }
-    c
-}
-
-// A tag 7 for each column of set, the other one at its place behind others.
-pub fn set_matches(items: &mut ItemWords, c: Cursor, set: u64, behind: u32) -> Cursor
-    requires { behind ≤ 1000 }
-    ensures { Added items.old items.new c result (map conjunct_words (algebra.match (λ q. q) (λ q. behind + algebra.below (members set) q) (members set))) }
-{
-    let mut c = c;
-    let mut found = 0;
-    let mut q = 0;
-    while q < BITS {
-        if has(set, q) {
-            c = push_item(items, c, 7, local(q), local(behind + found));
-            found += 1;
-        }
-        q += 1;
-    }
-    c
-}
-
-// Keys or output columns: count columns from one on.
-pub fn columns(items: &mut ItemWords, c: Cursor, tag: u32, from: u32, count: u32) -> Cursor
-    requires { from + count ≤ 1000 }
-    ensures { Added items.old items.new c result (map (position_words tag) (algebra.span from count)) }
-{
-    let mut c = c;
-    let mut i = 0;
-    while i < count {
-        c = push_item(items, c, tag, local(from + i), local(0));
-        i += 1;
-    }
-    c
-}
-
-// The columns of set as keys.
-pub fn set_keys(items: &mut ItemWords, c: Cursor, set: u64) -> Cursor
-    ensures { Added items.old items.new c result (map (position_words 11) (members set)) }
-{
-    let mut c = c;
-    let mut q = 0;
-    while q < BITS {
-        if has(set, q) {
-            c = push_item(items, c, 11, local(q), local(0));
-        }
-        q += 1;
-    }
-    c
-}
 
 // The term whose three words begin at word k of item j, as they stand.
 fn three(words: &[u32], j: u32, k: u32) -> Three
@@ -101,127 +31,142 @@ fn three(words: &[u32], j: u32, k: u32) -> Three
     }
 }
 
-// Items as they stand.
-pub fn copied(words: &[u32], items: &mut ItemWords, c: Cursor, from: u32, count: u32) -> Cursor
-    requires { from + count ≤ 2000 }
-    ensures { Added items.old items.new c result (map item_words (spec.items_from words.now from count)) }
-{
-    let mut c = c;
-    let mut i = 0;
-    while i < count {
-        let j = from + i;
-        c = push_item(
-            items,
-            c,
-            tag(words, j),
-            three(words, j, 1),
-            three(words, j, 4),
-        );
-        i += 1;
-    }
-    c
-}
-
-// Keys, output columns and aggregates, each column behind those in front.
-pub fn shifted(
-    words: &[u32],
-    items: &mut ItemWords,
-    c: Cursor,
-    from: u32,
-    count: u32,
-    front: u32,
-) -> Cursor
-    requires { (from + count ≤ 2000) × (front ≤ 64) × ((i : ℕ) → i < count → spec.item_word words.now (from + i) 3 < 1000) }
-    ensures { Added items.old items.new c result (map (shifted_words front) (spec.items_from words.now from count)) }
-{
-    let mut c = c;
-    let mut i = 0;
-    while i < count {
-        let j = from + i;
-        let t = tag(words, j);
-        let mut p = 0;
-        if t != 13 {
-            p = front + position(words, j);
-        }
-        c = push_item(items, c, t, local(p), local(0));
-        i += 1;
-    }
-    c
-}
-
-// A local position of a left row of some width then a right row, with columns in front of the left and more between the two.
-fn both(position: u32, width: u32, front: u32, between: u32) -> u32
-    requires { (position < 1000) × (front ≤ 1000) × (between ≤ 1000) }
-    ensures { result ≡ algebra.shift_both width front between position }
-{
-    if position < width {
-        return front + position;
-    }
-    front + between + position
-}
-
 // A term, moved; a constant or null stays as it stands.
-fn moved_term(term: Term, stands: Three, d: Domain, width: u32, front: u32, between: u32) -> Three
-    requires { (front ≤ 1000) × (between ≤ 1000) × Near (meant term)
-        × ((stands.code ∷ stands.level ∷ stands.value ∷ []) ≡ term_words (meant term)) }
-    ensures { (D : algebra.Domain) → Means d D → (result.code ∷ result.level ∷ result.value ∷ [])
-        ≡ term_words (algebra.move_term D (algebra.shift_both width front between) (meant term)) }
+fn moved_term(term: Term, stands: Three, d: &Domain, shift: Shift) -> Three
+    requires { Near (meant term) × ((stands.code ∷ stands.level ∷ stands.value ∷ []) ≡ term_words (meant term)) }
+    ensures { (D : algebra.Domain) → Means d.now D → (result.code ∷ result.level ∷ result.value ∷ [])
+        ≡ term_words (algebra.move_term D (shifted shift) (meant term)) }
 {
     match term {
-        Term::Local(position) => local(both(position, width, front, between)),
-        Term::Outer { level, position } => local(place(d, level, position)),
-        Term::Constant(_) => stands,
-        Term::Null => stands,
+        Term::Local(position) => Three::local(shift.place(position)),
+        Term::Outer { level, position } => Three::local(d.place(level, position)),
+        Term::Constant(_) | Term::Null => stands,
     }
 }
 
-// One conjunct or computation, moved.
-fn moved_item(
-    words: &[u32],
-    items: &mut ItemWords,
-    c: Cursor,
-    j: u32,
-    d: Domain,
-    width: u32,
-    front: u32,
-    between: u32,
-) -> Cursor
-    requires { (front ≤ 1000) × (between ≤ 1000) × Movable (spec.item_at words.now j) }
-    ensures { (D : algebra.Domain) → Means d D → Added items.old items.new c result
-        (moved_words D (algebra.shift_both width front between) (spec.item_at words.now j) ∷ []) }
-{
-    let t = tag(words, j);
-    let stands = three(words, j, 1);
-    let first = moved_term(first_term(words, j), stands, d, width, front, between);
-    if t == 8 {
-        return push_item(items, c, t, first, local(0));
+impl Page {
+    // A test for the same for each of count columns, the other one behind others.
+    pub fn push_matches(&mut self, count: u32, behind: u32) -> Result<(), OverLimits>
+        requires { (count ≤ 64) × (behind ≤ 1000) }
+        ensures { Added self.old self.new result (map conjunct_words (algebra.match (λ q. q) (λ q. behind + q) (upto count))) }
+    {
+        for i in 0..count {
+            self.push_item(SAME, Three::local(i), Three::local(behind + i))?;
+        }
+        Ok(())
     }
-    let stands = three(words, j, 4);
-    let second = moved_term(second_term(words, j), stands, d, width, front, between);
-    push_item(items, c, t, first, second)
-}
 
-// Conjuncts or a computation, moved.
-pub fn moved(
-    words: &[u32],
-    items: &mut ItemWords,
-    c: Cursor,
-    from: u32,
-    count: u32,
-    d: Domain,
-    width: u32,
-    front: u32,
-    between: u32,
-) -> Cursor
-    requires { (from + count ≤ 2000) × (front ≤ 1000) × (between ≤ 1000) × ((i : ℕ) → i < count → Movable (spec.item_at words.now (from + i))) }
-    ensures { (D : algebra.Domain) → Means d D → Added items.old items.new c result
-        (map (moved_words D (algebra.shift_both width front between)) (spec.items_from words.now from count)) }
-{
-    let mut c = c;
-    let mut i = 0;
-    while i < count {
-        c = moved_item(words, items, c, from + i, d, width, front, between);
-        i += 1;
+    // A test for the same for each column of set, the other one at its place behind others.
+    pub fn push_set_matches(&mut self, set: ColumnSet, behind: u32) -> Result<(), OverLimits>
+        requires { behind ≤ 1000 }
+        ensures { Added self.old self.new result (map conjunct_words (algebra.match (λ q. q) (λ q. behind + algebra.below (members set) q) (members set))) }
+    {
+        for q in 0..ColumnSet::SIZE {
+            if set.contains(q) {
+                self.push_item(SAME, Three::local(q), Three::local(behind + set.rank(q)))?;
+            }
+        }
+        Ok(())
     }
-    c
+
+    // Keys or output columns: count columns from one on.
+    pub fn push_columns(&mut self, tag: u32, from: u32, count: u32) -> Result<(), OverLimits>
+        requires { from + count ≤ 1000 }
+        ensures { Added self.old self.new result (map (position_words tag) (algebra.span from count)) }
+    {
+        for i in 0..count {
+            self.push_item(tag, Three::local(from + i), Three::local(0))?;
+        }
+        Ok(())
+    }
+
+    // The columns of set as keys.
+    pub fn push_set_keys(&mut self, set: ColumnSet) -> Result<(), OverLimits>
+        ensures { Added self.old self.new result (map (position_words 11) (members set)) }
+    {
+        for q in 0..ColumnSet::SIZE {
+            if set.contains(q) {
+                self.push_item(KEY, Three::local(q), Three::local(0))?;
+            }
+        }
+        Ok(())
+    }
+
+    // Items as they stand.
+    pub fn push_copied(&mut self, words: &[u32], from: u32, count: u32) -> Result<(), OverLimits>
+        requires { from + count ≤ 2000 }
+        ensures { Added self.old self.new result (map item_words (spec.items_from words.now from count)) }
+    {
+        for i in 0..count {
+            let j = from + i;
+            self.push_item(tag(words, j), three(words, j, 1), three(words, j, 4))?;
+        }
+        Ok(())
+    }
+
+    // Keys, output columns and aggregates, each column behind those in front.
+    pub fn push_shifted(
+        &mut self,
+        words: &[u32],
+        from: u32,
+        count: u32,
+        front: u32,
+    ) -> Result<(), OverLimits>
+        requires { (from + count ≤ 2000) × (front ≤ 64) × ((i : ℕ) → i < count → spec.item_word words.now (from + i) 3 < 1000) }
+        ensures { Added self.old self.new result (map (shifted_words front) (spec.items_from words.now from count)) }
+    {
+        for i in 0..count {
+            let j = from + i;
+            let t = tag(words, j);
+            let p = if t == COUNT {
+                0
+            } else {
+                front + position(words, j)
+            };
+            self.push_item(t, Three::local(p), Three::local(0))?;
+        }
+        Ok(())
+    }
+
+    // One conjunct or computation, moved.
+    fn push_moved_item(
+        &mut self,
+        words: &[u32],
+        j: u32,
+        d: &Domain,
+        shift: Shift,
+    ) -> Result<(), OverLimits>
+        requires { Movable (spec.item_at words.now j) }
+        ensures { (D : algebra.Domain) → Means d.now D → Added self.old self.new result
+            (moved_words D (shifted shift) (spec.item_at words.now j) ∷ []) }
+    {
+        let t = tag(words, j);
+        let stands = three(words, j, 1);
+        let first = moved_term(first_term(words, j), stands, d, shift);
+        if t == COPY {
+            return self.push_item(t, first, Three::local(0));
+        }
+        let stands = three(words, j, 4);
+        let second = moved_term(second_term(words, j), stands, d, shift);
+        self.push_item(t, first, second)
+    }
+
+    // Conjuncts or a computation, moved.
+    pub fn push_moved(
+        &mut self,
+        words: &[u32],
+        from: u32,
+        count: u32,
+        d: &Domain,
+        shift: Shift,
+    ) -> Result<(), OverLimits>
+        requires { (from + count ≤ 2000) × ((i : ℕ) → i < count → Movable (spec.item_at words.now (from + i))) }
+        ensures { (D : algebra.Domain) → Means d.now D → Added self.old self.new result
+            (map (moved_words D (shifted shift)) (spec.items_from words.now from count)) }
+    {
+        for i in 0..count {
+            self.push_moved_item(words, from + i, d, shift)?;
+        }
+        Ok(())
+    }
 }

@@ -2,10 +2,9 @@
 use mathlib.Core.Path.{◌≡◌, refl, sym, ap, ◌∙◌}
 use mathlib.Core.Bool.{cond}
 use lib.Dec.{eqb}
+use Rattle.std.specs.Prelude.{Result, Ok, Err}
 use Rattle.plan.specs.declared.Refusal.{Refusal}
 use Rattle.plan.specs.declared.Refusal.TheVariants.{Header, Limits, Malformed, Unused, TooWide, OpenTwice, NoColumn}
-use Rattle.plan.specs.declared.Verdict.{Verdict}
-use Rattle.plan.specs.declared.Verdict.TheVariants.{Accepted, Refused}
 use Rattle.algebra.specs.Plan as algebra
 use Rattle.plan.specs.declared.terms.Term.{Term}
 use Rattle.plan.specs.declared.terms.Term.TheVariants.{Local, Outer, Constant, Null}
@@ -24,22 +23,22 @@ refusal_from a =
     (cond (eqb a.number 6) (OpenTwice a.node) (NoColumn a.node))))))
 
 -- the verdict that they name
-abbrev verdict_from : Answer → Verdict
-verdict_from a = cond (eqb a.number 0) Accepted (Refused (refusal_from a))
+abbrev verdict_from : Answer → Result (Unit {0}) Refusal
+verdict_from a = cond (eqb a.number 0) (Ok tt) (Err (refusal_from a))
 
 -- a verdict is the one that its answer names
-named : (v : Verdict) → verdict_from (answer_of v) ≡ v
-named Accepted = refl
-named (Refused Header) = refl
-named (Refused Limits) = refl
-named (Refused (Malformed n)) = refl
-named (Refused (Unused n)) = refl
-named (Refused (TooWide n)) = refl
-named (Refused (OpenTwice n)) = refl
-named (Refused (NoColumn n)) = refl
+named : (v : Result (Unit {0}) Refusal) → verdict_from (answer_of v) ≡ v
+named (Ok tt) = refl
+named (Err Header) = refl
+named (Err Limits) = refl
+named (Err (Malformed n)) = refl
+named (Err (Unused n)) = refl
+named (Err (TooWide n)) = refl
+named (Err (OpenTwice n)) = refl
+named (Err (NoColumn n)) = refl
 
 -- verdicts with the same answer are equal
-pub one_answer : (v w : Verdict) → answer_of v ≡ answer_of w → v ≡ w
+pub one_answer : (v w : Result (Unit {0}) Refusal) → answer_of v ≡ answer_of w → v ≡ w
 one_answer v w e = sym (named v) ∙ ap verdict_from e ∙ named w
 
 -- the term that means one of the algebra's

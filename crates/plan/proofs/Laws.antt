@@ -1,8 +1,11 @@
 -- The laws behind the check, by topic.
 pub mod Words
 pub mod Loops
+pub mod Ranges
+pub mod First
 pub mod Header
 pub mod Terms
+pub mod Codes
 pub mod Items
 pub mod Formed
 pub mod Malformed

@@ -1,8 +1,7 @@
 -- The check's answers as document 01 numbers them.
+use Rattle.std.specs.Prelude.{Result, Ok, Err}
 use Rattle.plan.specs.declared.Refusal.{Refusal}
 use Rattle.plan.specs.declared.Refusal.TheVariants.{Header, Limits, Malformed, Unused, TooWide, OpenTwice, NoColumn}
-use Rattle.plan.specs.declared.Verdict.{Verdict}
-use Rattle.plan.specs.declared.Verdict.TheVariants.{Accepted, Refused}
 use Rattle.plan.specs.Verdict.{Answer, accepted}
 
 -- "each returns number and node (0 for 1, 2 ..)"
@@ -15,6 +14,6 @@ refusal_of (TooWide n) = record { number = 5; node = n }
 refusal_of (OpenTwice n) = record { number = 6; node = n }
 refusal_of (NoColumn n) = record { number = 7; node = n }
 
-abbrev pub answer_of : Verdict → Answer
-answer_of Accepted = accepted
-answer_of (Refused r) = refusal_of r
+abbrev pub answer_of : Result (Unit {0}) Refusal → Answer
+answer_of (Ok u) = accepted
+answer_of (Err r) = refusal_of r

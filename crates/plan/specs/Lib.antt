@@ -4,6 +4,7 @@ pub mod Items
 pub mod Plan
 pub mod Terms
 pub mod Sorts
+pub mod Codes
 pub mod Verdict
 pub mod Answers
 pub mod Encoding

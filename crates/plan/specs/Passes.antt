@@ -1,14 +1,21 @@
 -- What the check works out on its way.
-use Rattle.std.specs.Prelude.{◌≡◌, Bool, true, cond, ◌&&◌, List, [], ◌∷◌, ℕ, suc, ◌<◌, ◌≤◌, max, pred, ltb, eqb, length, get_or}
+use Rattle.std.specs.Prelude.{◌≡◌, Bool, true, cond, ◌&&◌, List, [], ◌∷◌, ℕ, suc, ◌<◌, ◌≤◌, max, pred, ltb, eqb, length, get_or, set, Option, Some, None}
+use Rattle.std.specs.List.{slice_get}
+use Rattle.algebra.specs.Lists.{keep, upto}
 use Rattle.algebra.specs.Columns.{Column, shape_at}
 use Rattle.plan.specs.Words.{Three, Item, nodes, operator, left, right, items_of}
 use Rattle.plan.specs.Items.{between, position_of, term_of}
 use Rattle.plan.specs.Plan.{widths_of, nodes_of}
-use Rattle.plan.specs.Verdict.{lowest, uses_of, width_at, is_too_wide, scope_of, term_there, has_right}
+use Rattle.plan.specs.Verdict.{lowest, uses_of, width_at, is_too_wide, is_right_side, scope_of, term_there, has_right}
+use Rattle.plan.specs.Promise.{Formed}
 
 -- a word for each of 256 nodes, 0 from node n on
 abbrev pub ZeroFrom : ℕ → List ℕ → Type 0
 ZeroFrom n table = (length table ≡ 256) × ((m : ℕ) → n ≤ m → get_or table m 0 ≡ 0)
+
+-- the lowest number below n that passes, where there is one
+abbrev pub first : (ℕ → Bool) → ℕ → Option ℕ
+first p n = slice_get (keep p (upto n)) 0
 
 -- ---- uses
 
@@ -59,13 +66,30 @@ Reaches ws table = (m : ℕ) → m < nodes ws → get_or table m 0 ≡ reach (sh
 
 -- ---- columns
 
--- the table has for each node the dependent join whose left row is its level 0; 256 where there is none
-abbrev pub Joins : List ℕ → List ℕ → Type 0
-Joins ws table = (m : ℕ) → m < nodes ws → scope_of ws m ≡ cond (ltb (get_or table m 0) 256) (width_at ws (left ws (get_or table m 0)) ∷ scope_of ws (get_or table m 0)) []
+-- the rows from a join on, the nearest first; none where there is no join
+abbrev pub rows_from : List ℕ → Option ℕ → List ℕ
+rows_from ws None = []
+rows_from ws (Some p) = width_at ws (left ws p) ∷ scope_of ws p
+
+-- the table has for each node the dependent join whose left row is its level 0, where there is one
+abbrev pub Joins : List ℕ → List (Option ℕ) → Type 0
+Joins ws table = (m : ℕ) → m < nodes ws → scope_of ws m ≡ rows_from ws (get_or table m None)
 
 -- every join of the table is a dependent join of the plan
-abbrev pub InPlan : List ℕ → List ℕ → Type 0
-InPlan ws table = (m : ℕ) → m < nodes ws → get_or table m 0 < 256 → (get_or table m 0 < nodes ws) × (operator ws (get_or table m 0) ≡ 8)
+abbrev pub InPlan : List ℕ → List (Option ℕ) → Type 0
+InPlan ws table = (m p : ℕ) → m < nodes ws → get_or table m None ≡ Some p → (p < nodes ws) × (operator ws p ≡ 8)
+
+-- the table with input i of node p, where it is open
+abbrev pub entered : List ℕ → List ℕ → ℕ → ℕ → List (Option ℕ) → List (Option ℕ)
+entered ws reaches p i joins = cond (ltb 0 (get_or reaches i 0)) (set joins i (cond (is_right_side ws p i) (Some p) (get_or joins p None))) joins
+
+-- the widths and the joins that columns are looked up in
+pub record Placed (ws rows : List ℕ) (joins : List (Option ℕ)) : Type 0 where
+  pub formed : Formed ws
+  pub widths : Widths ws rows
+  pub narrow : AllNarrow ws rows
+  pub around : Joins ws joins
+  pub in_plan : InPlan ws joins
 
 -- the columns of an item: conjuncts and computations over rows of width w, keys, output columns and aggregates over rows of width v
 abbrev pub item_there : List ℕ → ℕ → ℕ → Item → Bool

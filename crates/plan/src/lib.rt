@@ -3,6 +3,9 @@
 
 pub mod words; // each word by its name
 pub mod terms; // a term of an item, decoded
+pub mod operator; // the operator of a node, decoded
+pub mod kinds; // the kind of a join, decoded
+pub mod sorts; // what the tag of an item says, decoded
 pub mod header; // refusals 1 and 2
 pub mod tags; // the items of a node, counted by their tags
 mod items; // the items of a node, by their sorts
@@ -16,7 +19,7 @@ ghost use Rattle.std.specs.Prelude.{◌≡◌};
 ghost use Rattle.plan.specs.Verdict.{verdict};
 ghost use Rattle.plan.specs.Answers.{refusal_of, answer_of};
 
-use columns::{first_missing, work_out_joins};
+use columns::{Lookup, work_out_joins};
 use header::{header_right, limits_right};
 use malformed::malformed;
 use reach::work_out_reaches;
@@ -41,7 +44,7 @@ impl Plan {
 pub type PerNode = [u32; Plan::NODES as usize];
 
 // Refusals 1 to 7, each with its node where it has one.
-#[derive(Clone, Copy)]
+#[derive(Clone, Copy, Debug, PartialEq, Eq)]
 pub enum Refusal {
     Header,
     Limits,
@@ -73,57 +76,50 @@ impl Refusal {
         ensures { result ≡ (refusal_of self).node }
     {
         match self {
-            Refusal::Header => 0,
-            Refusal::Limits => 0,
-            Refusal::Malformed(n) => n,
-            Refusal::Unused(n) => n,
-            Refusal::TooWide(n) => n,
-            Refusal::OpenTwice(n) => n,
-            Refusal::NoColumn(n) => n,
+            Refusal::Header | Refusal::Limits => 0,
+            Refusal::Malformed(n)
+            | Refusal::Unused(n)
+            | Refusal::TooWide(n)
+            | Refusal::OpenTwice(n)
+            | Refusal::NoColumn(n) => n,
         }
     }
 }
 
-#[derive(Clone, Copy)]
-pub enum Verdict {
-    Accepted,
-    Refused(Refusal),
-}
-
 // Any slice of words gets document 01's answer.
-pub fn check(words: &[u32]) -> Verdict
+#[tactic(auto, using(crate::proofs::Laws::Verdict::refusals))]
+pub fn check(words: &[u32]) -> Result<(), Refusal>
     ensures { answer_of result ≡ verdict words.now }
 {
     if !header_right(words) {
-        return Verdict::Refused(Refusal::Header);
+        return Err(Refusal::Header);
     }
     if !limits_right(words) {
-        return Verdict::Refused(Refusal::Limits);
+        return Err(Refusal::Limits);
     }
-    let count = words::nodes(words);
-    let node = malformed(words);
-    if node < count {
-        return Verdict::Refused(Refusal::Malformed(node));
+    if let Some(node) = malformed(words) {
+        return Err(Refusal::Malformed(node));
     }
     let uses = count_uses(words);
-    let node = first_unused(words, &uses);
-    if node < count {
-        return Verdict::Refused(Refusal::Unused(node));
+    if let Some(node) = first_unused(words, &uses) {
+        return Err(Refusal::Unused(node));
     }
     let widths = work_out_widths(words);
-    if widths.narrow < count {
-        return Verdict::Refused(Refusal::TooWide(widths.narrow));
+    if widths.narrow < words::nodes(words) {
+        return Err(Refusal::TooWide(widths.narrow));
     }
-    let rows = widths.rows;
     let reaches = work_out_reaches(words);
-    let node = first_open_twice(words, &uses, &reaches);
-    if node < count {
-        return Verdict::Refused(Refusal::OpenTwice(node));
+    if let Some(node) = first_open_twice(words, &uses, &reaches) {
+        return Err(Refusal::OpenTwice(node));
     }
     let joins = work_out_joins(words, &reaches);
-    let node = first_missing(words, &rows, &joins);
-    if node < count {
-        return Verdict::Refused(Refusal::NoColumn(node));
+    let columns = Lookup {
+        words,
+        rows: &widths.rows,
+        joins: &joins,
+    };
+    if let Some(node) = columns.first_missing() {
+        return Err(Refusal::NoColumn(node));
     }
-    Verdict::Accepted
+    Ok(())
 }

@@ -1,19 +1,12 @@
 // How far a node reaches beyond itself: it is open where its reach is not 0.
-ghost use Rattle.std.specs.Prelude.{◌≡◌, ℕ, ◌+◌, ◌≤◌, ◌<◌, max, get_or};
+ghost use Rattle.std.specs.Prelude.{◌≡◌, ℕ, ◌+◌, ◌≤◌, ◌<◌, get_or};
 ghost use Rattle.plan.specs.Words as spec;
 ghost use Rattle.plan.specs.Promise.{Formed};
 ghost use Rattle.plan.specs.Passes.{ZeroFrom, Reaches, term_reach, items_reach, node_reach};
 
-use crate::words::{
-    first_item, has_right, item_count, item_word, left, nodes, operator, right, wide,
-};
+use crate::operator::Operator;
+use crate::words::{first_item, item_count, item_word, left, nodes, right};
 use crate::{PerNode, Plan};
-
-fn larger(a: u32, b: u32) -> u32
-    ensures { result ≡ max a b }
-{
-    if a < b { b } else { a }
-}
 
 // The reach of the term whose three words begin at word k of item j.
 fn term_reach(words: &[u32], j: u32, k: u32) -> u32
@@ -21,9 +14,10 @@ fn term_reach(words: &[u32], j: u32, k: u32) -> u32
     ensures { result ≡ term_reach (spec.three_at words.now j k) }
 {
     if item_word(words, j, k) == 1 {
-        return item_word(words, j, k + 1) + 1;
+        item_word(words, j, k + 1) + 1
+    } else {
+        0
     }
-    0
 }
 
 // The reach of count items from item a on.
@@ -32,39 +26,32 @@ fn items_reach(words: &[u32], a: u32, count: u32) -> u32
     ensures { result ≡ items_reach (spec.items_from words.now a count) }
 {
     let mut reach = 0;
-    let mut i = 0;
-    while i < count {
-        reach = larger(
-            reach,
-            larger(term_reach(words, a + i, 1), term_reach(words, a + i, 4)),
-        );
-        i += 1;
+    for i in 0..count {
+        let first = term_reach(words, a + i, 1);
+        reach = first.max(term_reach(words, a + i, 4)).max(reach);
     }
     reach
 }
 
 // The reach of node n, from those of its inputs; a dependent join's left row is one level of its right side.
+#[tactic(auto, using(crate::proofs::Laws::Formed::left_in, crate::proofs::Laws::Formed::right_in))]
 fn node_reach(words: &[u32], n: u32, reaches: &PerNode) -> u32
     requires { Formed words.now × (n < spec.nodes words.now) }
     ensures { result ≡ node_reach words.now (λ i. get_or reaches.now i 0) n }
 {
-    let o = operator(words, n);
     let own = items_reach(words, first_item(words, n), item_count(words, n));
-    if o == 1 {
-        return own;
-    }
-    let l = larger(own, reaches[wide(left(words, n))]);
-    if !has_right(o) {
-        return l;
-    }
-    let r = reaches[wide(right(words, n))];
-    if o == 8 {
-        if 0 < r {
-            return larger(l, r - 1);
+    match Operator::of(words, n) {
+        Operator::Scan => own,
+        Operator::Select | Operator::Map | Operator::Project | Operator::Group => {
+            own.max(reaches[left(words, n) as usize])
         }
-        return l;
+        Operator::Join | Operator::Groupjoin => own
+            .max(reaches[left(words, n) as usize])
+            .max(reaches[right(words, n) as usize]),
+        Operator::Dependent => own
+            .max(reaches[left(words, n) as usize])
+            .max(reaches[right(words, n) as usize].saturating_sub(1)),
     }
-    larger(l, r)
 }
 
 pub fn work_out_reaches(words: &[u32]) -> PerNode
@@ -72,13 +59,9 @@ pub fn work_out_reaches(words: &[u32]) -> PerNode
     ensures reaches { Reaches words.now result }
     ensures zero_from { ZeroFrom (spec.nodes words.now) result }
 {
-    let mut reaches = [0u32; Plan::NODES as usize];
-    let count = nodes(words);
-    let mut n = 0;
-    while n < count {
-        let r = node_reach(words, n, &reaches);
-        reaches[wide(n)] = r;
-        n += 1;
+    let mut reaches = [0; Plan::NODES as usize];
+    for n in 0..nodes(words) {
+        reaches[n as usize] = node_reach(words, n, &reaches);
     }
     reaches
 }

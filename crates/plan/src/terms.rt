@@ -6,7 +6,7 @@ ghost use Rattle.plan.specs.Terms.{meant};
 
 use crate::words::item_word;
 
-#[derive(Clone, Copy)]
+#[derive(Clone, Copy, Debug, PartialEq, Eq)]
 pub enum Term {
     Local(u32),
     Outer { level: u32, position: u32 },
@@ -18,11 +18,7 @@ pub enum Term {
 fn signed_word(w: u32) -> i64
     ensures { result ≡ signed w }
 {
-    if w < 2147483648 {
-        w as i64
-    } else {
-        w as i64 - 4294967296
-    }
+    i64::from(w.cast_signed())
 }
 
 // The term whose three words begin at word k of item j.

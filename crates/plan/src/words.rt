@@ -1,19 +1,12 @@
 // Each word of a plan table by its name: the only place that knows where words stand.
 ghost use Rattle.std.specs.Prelude.{◌≡◌};
 ghost use Rattle.plan.specs.Words as spec;
-ghost use Rattle.plan.specs.Verdict.{has_right};
-
-pub fn wide(x: u32) -> usize
-    ensures { result ≡ x }
-{
-    x as usize
-}
 
 // Word i, 0 past the end.
 pub fn word(words: &[u32], i: usize) -> u32
     ensures { result ≡ spec.word words.now i }
 {
-    if i < words.len() { words[i] } else { 0 }
+    words.get(i).copied().unwrap_or(0)
 }
 
 pub fn tables(words: &[u32]) -> u32
@@ -37,14 +30,17 @@ pub fn items(words: &[u32]) -> u32
 pub fn table_width(words: &[u32], t: u32) -> u32
     ensures { result ≡ spec.table_width words.now t }
 {
-    word(words, 8 + wide(t))
+    word(words, 8 + t as usize)
 }
 
 // Word k of node n.
 fn node_word(words: &[u32], n: u32, k: u32) -> u32
     ensures { result ≡ spec.node_word words.now n k }
 {
-    word(words, 8 + wide(tables(words)) + 6 * wide(n) + wide(k))
+    word(
+        words,
+        8 + tables(words) as usize + 6 * n as usize + k as usize,
+    )
 }
 
 pub fn operator(words: &[u32], n: u32) -> u32
@@ -89,7 +85,7 @@ pub fn item_word(words: &[u32], j: u32, k: u32) -> u32
 {
     word(
         words,
-        8 + wide(tables(words)) + 6 * wide(nodes(words)) + 7 * wide(j) + wide(k),
+        8 + tables(words) as usize + 6 * nodes(words) as usize + 7 * j as usize + k as usize,
     )
 }
 
@@ -104,14 +100,4 @@ pub fn position(words: &[u32], j: u32) -> u32
     ensures { result ≡ spec.item_word words.now j 3 }
 {
     item_word(words, j, 3)
-}
-
-// Join, groupjoin and dependent join have a right input.
-pub fn has_right(o: u32) -> bool
-    ensures { result ≡ has_right o }
-{
-    match o {
-        5 | 7 | 8 => true,
-        _ => false,
-    }
 }

@@ -1,123 +1,79 @@
 // What the programs read and print alike: words from standard input, refusals, listings.
 #![tactic(auto)]
 
+ghost use Rattle.std.specs.Prelude.{◌≡◌, take};
+
+use input::{read_full, words_from};
+use plan::Plan;
 use plan::widths::work_out_widths;
-use plan::words::{item_count, items, kind, left, nodes, operator, right, wide};
-use plan::{Plan, Verdict};
-use rewrite::{Rewritten, rewrite};
+use plan::words::{item_count, items, kind, left, nodes, operator, right};
+use rewrite::rewrite;
+use std::io;
+use std::io::Read;
 
-// The descriptor of standard output.
-pub const STDOUT_FILENO: i32 = 1;
+// The words of the longest plan.
+pub const LONGEST_PLAN: usize = 8
+    + Plan::TABLES as usize
+    + 6 * Plan::NODES as usize
+    + 7 * Plan::ITEMS as usize;
 
-#[derive(Clone, Copy)]
-pub struct Longest;
+// The words that are read: more than any plan has.
+pub const INPUT_WORDS: usize = 16384;
 
-impl Longest {
-    // The words of the longest plan.
-    pub const PLAN: usize = 8
-        + Plan::TABLES as usize
-        + 6 * Plan::NODES as usize
-        + 7 * Plan::ITEMS as usize;
+// Their bytes and one more, so that longer input is no whole number of words.
+const INPUT_BYTES: usize = 4 * INPUT_WORDS + 1;
 
-    // The words that are read: more than any plan has.
-    pub const INPUT: usize = 16384;
-}
-
-// How many words stood on standard input; or it was no whole number of them, or too many.
-#[derive(Clone, Copy)]
-pub enum Input {
-    Words(usize),
-    NotWords,
-}
-
-// Words, least byte first.
-pub fn read_words(words: &mut [u32]) -> Input {
-    let mut bytes = io::large_buffer();
-    let count = io::read_full(0, &mut bytes);
-    let mut extra = [0u8; 1];
-    if 0 < io::read_full(0, &mut extra) {
-        return Input::NotWords;
+// The words of an input, least byte first; none where it is no whole number of them, or too long.
+pub fn read_words<'a, R: Read>(from: &mut R, room: &'a mut [u32]) -> Option<&'a [u32]> {
+    let mut bytes = [0u8; INPUT_BYTES];
+    let came = read_full(from, &mut bytes);
+    if came.len() % 4 != 0 {
+        return None;
     }
-    if count % 4 != 0 {
-        return Input::NotWords;
-    }
-    Input::Words(input::words(&bytes[..count], words))
+    Some(words_from(came, room))
 }
 
-fn print_number(x: u32) {
-    io::print_decimal(STDOUT_FILENO, x as u64);
+// What was written of a buffer: its first count, or all of it where it has fewer, which no answer counts.
+pub fn front<T>(buffer: &[T], count: u32) -> &[T]
+    ensures { result.now ≡ take count buffer.now }
+{
+    &buffer[..(count as usize).min(buffer.len())]
 }
 
-fn print_next(x: u32) {
-    io::write_all(STDOUT_FILENO, b" ");
-    print_number(x);
-}
-
-fn end_line() {
-    io::write_all(STDOUT_FILENO, b"\n");
-}
-
-pub fn print_refused(number: u32, node: u32) {
-    io::write_all(STDOUT_FILENO, b"refused");
-    print_next(number);
-    print_next(node);
-    end_line();
+pub fn print_refused(rt: &impl Print, number: u32, node: u32) -> io::Result<()> {
+    println!(rt; "refused {number} {node}")
 }
 
 // Number, operator, kind, left, right, item count, width.
-fn print_node(words: &[u32], n: u32, width: u32) {
-    print_number(n);
-    print_next(operator(words, n));
-    print_next(kind(words, n));
-    print_next(left(words, n));
-    print_next(right(words, n));
-    print_next(item_count(words, n));
-    print_next(width);
-    end_line();
+fn print_node(rt: &impl Print, words: &[u32], n: u32, width: u32) -> io::Result<()> {
+    println!(rt;
+        "{n} {} {} {} {} {} {width}",
+        operator(words, n),
+        kind(words, n),
+        left(words, n),
+        right(words, n),
+        item_count(words, n)
+    )
 }
 
 // The listing of an accepted plan; the rewriting of one always is.
-fn print_plan(words: &[u32]) {
-    let v = plan::check(words);
-    let Verdict::Accepted = v else {
-        return;
+fn print_plan(rt: &impl Print, words: &[u32]) -> io::Result<()> {
+    let Ok(()) = plan::check(words) else {
+        return Ok(());
     };
     let widths = work_out_widths(words);
-    let rows = widths.rows;
-    io::write_all(STDOUT_FILENO, b"nodes");
-    print_next(nodes(words));
-    io::write_all(STDOUT_FILENO, b" items");
-    print_next(items(words));
-    end_line();
-    let count = nodes(words);
-    let mut n = 0;
-    while n < count {
-        print_node(words, n, rows[wide(n)]);
-        n += 1;
+    println!(rt; "nodes {} items {}", nodes(words), items(words))?;
+    for (n, width) in (0..nodes(words)).zip(widths.rows) {
+        print_node(rt, words, n, width)?;
     }
-}
-
-fn print_front(out: &[u32], count: usize) {
-    if count <= out.len() {
-        print_plan(&out[..count]);
-    }
+    Ok(())
 }
 
 // The listing of a plan's rewriting, or the refusal.
-pub fn list(words: &[u32]) {
-    let mut out = [0u32; Longest::PLAN];
-    let answer = rewrite(words, &mut out);
-    match answer {
-        Rewritten::Words(n) => print_front(&out, wide(n)),
-        Rewritten::Refused(r) => print_refused(r.number(), r.node()),
-        Rewritten::OverLimits => print_refused(8, 0),
-        Rewritten::NoRoom => print_refused(9, 0),
-    }
-}
-
-// The same for the plan in the first count words.
-pub fn list_front(words: &[u32], count: usize) {
-    if count <= words.len() {
-        list(&words[..count]);
+pub fn list(rt: &impl Print, words: &[u32]) -> io::Result<()> {
+    let mut out = [0u32; LONGEST_PLAN];
+    match rewrite(words, &mut out) {
+        Ok(count) => print_plan(rt, front(&out, count)),
+        Err(refusal) => print_refused(rt, refusal.number(), refusal.node()),
     }
 }

@@ -1,41 +1,54 @@
 // Records of the programs that answer them: a part is a byte count and that many bytes, a number has its least byte first.
 #![tactic(auto)]
 
-ghost use Rattle.std.specs.Prelude.{◌≡◌};
-ghost use Rattle.io.specs.Counts.{IsPrefixLen};
+ghost use Rattle.std.specs.Prelude.{◌++◌, codes, decimal, Some};
 
-use input::least;
-
-// The descriptor of standard output.
-pub const STDOUT_FILENO: i32 = 1;
+use input::read_full;
+use std::io::{Read, Write};
+use std::{fmt, io};
 
 // At most so many records are read, so that every input ends.
 pub const RECORDS: u32 = 1000;
 
-fn wide(x: u32) -> usize
-    ensures { result ≡ x }
-{
-    x as usize
+// The number of refusal and the node, 0 and 0 where a plan is accepted.
+#[derive(Clone, Copy, Debug, PartialEq, Eq)]
+pub struct Answer {
+    pub number: u32,
+    pub node: u32,
+}
+
+impl Answer {
+    pub const ACCEPTED: Answer = Answer { number: 0, node: 0 };
+}
+
+impl fmt::Display for Answer {
+    ghost output = { λ a. Some (codes ": " ++ (decimal a.number ++ (codes " " ++ decimal a.node))) };
+
+    fn fmt<W: fmt::Write>(&self, f: &mut fmt::Formatter<W>) -> fmt::Result {
+        write!(f, ": {} {}", self.number, self.node)
+    }
 }
 
 // A number of a record, 0 where the input ends.
-pub fn read_number() -> u32 {
+pub fn read_number<R: Read>(from: &mut R) -> u32 {
     let mut bytes = [0u8; 4];
-    io::read_full(0, &mut bytes);
-    let mut number = [0u32; 1];
-    input::words(&bytes, &mut number);
-    number[0]
+    read_full(from, &mut bytes);
+    u32::from_le_bytes(bytes)
 }
 
-// Reads a part of a record to the front of room, and answers how many bytes came.
-pub fn read_part(room: &mut [u8]) -> usize
-    ensures { IsPrefixLen result room.new }
-{
-    let count = least(wide(read_number()), room.len());
-    io::read_full(0, &mut room[..count])
+// Reads a part of a record to the front of room, as much as it has room for, and lends what came.
+pub fn read_part<'a, R: Read>(from: &mut R, room: &'a mut [u8]) -> &'a [u8] {
+    let count = (read_number(from) as usize).min(room.len());
+    read_full(from, &mut room[..count])
 }
 
-pub fn print_next(x: u32) {
-    io::write_all(STDOUT_FILENO, b" ");
-    io::print_decimal(STDOUT_FILENO, x as u64);
+// Reads a record's name and prints it; false where the input has no more, since every record has a name.
+pub fn print_name<R: Read, W: Write>(
+    from: &mut R,
+    to: &mut W,
+    room: &mut [u8],
+) -> io::Result<bool> {
+    let name = read_part(from, room);
+    to.write_all(name)?;
+    Ok(!name.is_empty())
 }

@@ -1,182 +1,104 @@
 // Closed nodes in number order, each with what it needs under its domain.
-ghost use Rattle.std.specs.Prelude.{◌≡◌, true, [], ◌∷◌, ◌++◌, ◌<◌, get_or};
+ghost use Rattle.std.specs.Prelude.{◌≡◌, true, [], ◌∷◌, ◌++◌, get_or};
 ghost use Rattle.algebra.specs.Columns.{closed, shape_at};
 ghost use Rattle.plan.specs.Plan.{node_at, widths_of, nodes_of};
-ghost use Rattle.plan.specs.Promise.{Accepted};
 ghost use Rattle.rewrite.specs.Answer.{new_plan};
-ghost use Rattle.rules.specs.Given.{PlanNode, Tables};
-ghost use Rattle.pages.specs.Pages.{sheet, GrowsOver, copy_of, Finished};
+ghost use Rattle.rules.specs.Given.{PlanNode, Right, Known};
+ghost use Rattle.pages.specs.Pages.{Holds, GrowsOver, copy_of, Finished};
 ghost use Rattle.rewrite.specs.Closing.{Closes};
 
-use pages::domain::{inner, outside};
-use pages::page::{Cursor, Head, ItemWords, NodeWords, last, push_node};
-use pages::writer::copied;
-use plan::tags::count_tagged;
-use plan::words::{
-    first_item, item_count, kind, left, nodes as node_count, operator, right, table_width, wide,
-};
+use pages::domain::Domain;
+use pages::page::{Head, OverLimits, Page};
+use plan::kinds::JoinKind;
+use plan::operator::Operator;
+use plan::sorts::Sort;
+use plan::tags::count_of_sort;
+use plan::words::{first_item, item_count, left, nodes as node_count, right, table_width};
 use plan::{PerNode, Plan};
-use rules::finish::{domain_node, with_inner};
+use rules::finish::{push_domain, with_inner};
 use rules::put::put;
-use rules::reads::{ReadSets, key_set};
-
-// The image of an input, which is a node before n.
-fn image(images: &PerNode, i: u32) -> u32
-    requires { i < 256 }
-    ensures { result ≡ get_or images.now i 0 }
-{
-    images[wide(i)]
-}
+use rules::reads::key_set;
+use rules::tables::Tables;
 
 // A copy of node n with its inputs renumbered; a dependent join becomes the join of its kind.
-fn copy_node(
-    words: &[u32],
-    n: u32,
-    images: &PerNode,
-    nodes: &mut NodeWords,
-    items: &mut ItemWords,
-    rows: &mut PerNode,
-    c: Cursor,
-) -> Cursor
+fn copy_node(words: &[u32], n: u32, images: &PerNode, page: &mut Page) -> Result<u32, OverLimits>
     requires { PlanNode words.now n }
-    ensures { GrowsOver (widths_of words.now)
-        (sheet nodes.old items.old rows.old c)
-        (sheet nodes.new items.new rows.new result)
+    ensures { GrowsOver (widths_of words.now) page.old page.new result
         (λ out. out ++ (copy_of (λ i. get_or images.now i 0) (node_at words.now n) ∷ [])) }
 {
-    let operation = operator(words, n);
+    let operator = Operator::of(words, n);
     let input = left(words, n);
     let from = first_item(words, n);
     let count = item_count(words, n);
-    let first = c.items;
-    let c = copied(words, items, c, from, count);
-    match operation {
-        1 => push_node(
-            nodes,
-            rows,
-            c,
-            first,
-            Head::scan(input),
-            table_width(words, input),
-        ),
-        5 | 8 => {
-            let head = Head::join(
-                kind(words, n),
-                image(images, input),
-                image(images, right(words, n)),
-            );
-            push_node(nodes, rows, c, first, head, 0)
+    let first = page.item_count;
+    page.push_copied(words, from, count)?;
+    match operator {
+        Operator::Scan => page.push_node(first, Head::scan(input), table_width(words, input)),
+        Operator::Select | Operator::Map | Operator::Project | Operator::Group => {
+            page.push_node(first, Head::over(operator, images[input as usize]), 0)
         }
-        7 => push_node(
-            nodes,
-            rows,
-            c,
-            first,
-            Head::groupjoin(image(images, input), image(images, right(words, n))),
-            count_tagged(words, from, count, 13, 16),
-        ),
-        _ => push_node(
-            nodes,
-            rows,
-            c,
-            first,
-            Head::over(operation, image(images, input)),
-            0,
-        ),
+        Operator::Join | Operator::Dependent => {
+            let other = right(words, n);
+            let kind = JoinKind::of(words, n);
+            let head = Head::join(kind, images[input as usize], images[other as usize]);
+            page.push_node(first, head, 0)
+        }
+        Operator::Groupjoin => {
+            let other = right(words, n);
+            let head = Head::groupjoin(images[input as usize], images[other as usize]);
+            page.push_node(
+                first,
+                head,
+                count_of_sort(words, from, count, Sort::Aggregate),
+            )
+        }
     }
 }
 
-// A closed node; what is over a limit stays so.
+// A closed node: the number of its last node. What put does alike would be a cycle with it, and no plainer.
 fn closed_node(
-    words: &[u32],
-    n: u32,
-    reaches: &PerNode,
-    widths: &PerNode,
+    tables: &Tables<'_>,
     images: &PerNode,
-    reads: &ReadSets,
-    nodes: &mut NodeWords,
-    items: &mut ItemWords,
-    rows: &mut PerNode,
-    c: Cursor,
-) -> Cursor
-    requires { PlanNode words.now n × (closed (shape_at (widths_of words.now) (nodes_of words.now) n) ≡ true)
-        × Tables words.now reaches.now widths.now reads.now }
-    ensures { Closes words.now images.now n
-        (sheet nodes.old items.old rows.old c)
-        (sheet nodes.new items.new rows.new result) }
+    n: u32,
+    page: &mut Page,
+) -> Result<u32, OverLimits>
+    requires { Known tables.now n × (closed (shape_at (widths_of tables.now.words.now) (nodes_of tables.now.words.now) n) ≡ true) }
+    ensures { Closes tables.now.words.now images.now n page.old page.new result }
 {
-    if operator(words, n) == 8 {
+    let words = tables.words;
+    if let Operator::Dependent = Operator::of(words, n) {
         let left_input = left(words, n);
         let right_input = right(words, n);
-        if 0 < reaches[wide(right_input)] {
-            let left_node = images[wide(left_input)];
-            let d = outside();
-            let set = key_set(d, reads, right_input);
-            let domain_put = domain_node(set, left_node, nodes, items, rows, c);
-            if !domain_put.ok {
-                return domain_put;
-            }
-            let right_put = put(
-                words,
-                right_input,
-                inner(d, last(domain_put), set),
-                reaches,
-                widths,
+        if !tables.is_closed(right_input) {
+            let left_node = images[left_input as usize];
+            let d = Domain::outside();
+            let set = key_set(&d, tables.reads, right_input);
+            let domain_node = push_domain(set, left_node, page)?;
+            let right_node = put(
+                tables,
                 images,
-                reads,
-                nodes,
-                items,
-                rows,
-                domain_put,
-            );
-            return with_inner(
-                words,
-                n,
-                d,
-                set,
-                widths[wide(left_input)],
-                widths[wide(right_input)],
-                left_node,
-                last(right_put),
-                nodes,
-                items,
-                rows,
-                right_put,
-            );
+                right_input,
+                &d.inner(domain_node, set),
+                page,
+            )?;
+            let left_side = tables.side(left_input, left_node);
+            let right_side = tables.side(right_input, right_node);
+            return with_inner(words, n, &d, set, left_side, right_side, page);
         }
     }
-    copy_node(words, n, images, nodes, items, rows, c)
+    copy_node(words, n, images, page)
 }
 
 // All nodes: what is written then is the plan that the rules give.
-pub fn rewrite_nodes(
-    words: &[u32],
-    reaches: &PerNode,
-    widths: &PerNode,
-    reads: &ReadSets,
-    nodes: &mut NodeWords,
-    items: &mut ItemWords,
-) -> Cursor
-    requires { Accepted words.now × Tables words.now reaches.now widths.now reads.now }
-    ensures { Finished (widths_of words.now) (new_plan words.now) nodes.new items.new result }
+pub fn rewrite_nodes(tables: &Tables<'_>, page: &mut Page) -> Result<(), OverLimits>
+    requires { Right tables.now × Holds (widths_of tables.now.words.now) page.old [] [] }
+    ensures { Finished (widths_of tables.now.words.now) (new_plan tables.now.words.now) page.new result }
 {
-    let mut rows = [0u32; Plan::NODES as usize];
-    let mut images = [0u32; Plan::NODES as usize];
-    let mut c = Cursor {
-        nodes: 0,
-        items: 0,
-        ok: true,
-    };
-    let count = node_count(words);
-    let mut n = 0;
-    while n < count {
-        if reaches[wide(n)] == 0 {
-            c = closed_node(
-                words, n, reaches, widths, &images, reads, nodes, items, &mut rows, c,
-            );
-            images[wide(n)] = last(c);
+    let mut images = [0; Plan::NODES as usize];
+    for n in 0..node_count(tables.words) {
+        if tables.is_closed(n) {
+            images[n as usize] = closed_node(tables, &images, n, page)?;
         }
-        n += 1;
     }
-    c
+    Ok(())
 }

@@ -1,5 +1,5 @@
 -- A node under a domain, by its number: what its piece puts.
-use Rattle.std.specs.Prelude.{◌≡◌, true, cond, List, [], ◌∷◌, ◌++◌, map, ℕ, zero, suc, ◌+◌, ◌<◌, eqb, length, get_or}
+use Rattle.std.specs.Prelude.{◌≡◌, true, cond, List, [], ◌∷◌, ◌++◌, map, ℕ, zero, suc, ◌+◌, ◌<◌, eqb, length, get_or, Result}
 use Rattle.algebra.specs.Lists.{keep, Every, upto}
 use Rattle.algebra.specs.Plan.{Node, scan, select, compute, project, join, group, groupjoin, dependent}
 use Rattle.algebra.specs.Columns.{Column, shape_at, closed}
@@ -11,7 +11,9 @@ use Rattle.plan.specs.Plan.{node_at, widths_of, nodes_of}
 use Rattle.pages.specs.declared.domain.Domain as code
 use Rattle.pages.specs.Domains.{Means}
 use Rattle.rules.specs.Reads.{reads_at}
-use Rattle.pages.specs.Pages.{Stands, Sheet, Carries}
+use Rattle.pages.specs.declared.page.OverLimits.{OverLimits}
+use Rattle.pages.specs.declared.page.Page.{Page}
+use Rattle.pages.specs.Pages.{Stands, Holds, Leaves}
 
 module _ (ws : List ℕ) (images : ℕ → ℕ) where
   -- inputs are below, so that n + 1 levels of calls are enough for node n
@@ -34,9 +36,9 @@ pub record Ready (ws : List ℕ) (images : ℕ → ℕ) (n : ℕ) (D : Domain) (
   pub copies : (i : ℕ) → i < n → closed (shape_at (widths_of ws) (nodes_of ws) i) ≡ true → Stands (widths_of ws) out (images i) (shape_at (widths_of ws) (nodes_of ws) i).width
 
 -- the nodes out have become those with node n put under the domain that d means
-pub record Puts (ws images : List ℕ) (n : ℕ) (d : code.Domain) (s s' : Sheet) : Type 0 where
+pub record Puts (ws images : List ℕ) (n : ℕ) (d : code.Domain) (page page' : Page) (result : Result ℕ OverLimits) : Type 0 where
   pub written : (D : Domain) (out : List Node) → Means d D → Within D (reads_at ws n) → Ready ws (λ i. get_or images i 0) n D out
-      → Carries (widths_of ws) s out → Carries (widths_of ws) s' (put ws (λ i. get_or images i 0) (suc n) n D out).out
+      → Holds (widths_of ws) page out [] → Leaves (widths_of ws) page' (put ws (λ i. get_or images i 0) (suc n) n D out).out result
 
 -- how many of a node's items are conjuncts, where it has conjuncts and at most aggregates behind them
 abbrev pub conjunct_count : List ℕ → ℕ → ℕ

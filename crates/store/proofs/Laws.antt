@@ -1,6 +1,7 @@
 pub mod Bits
 pub mod Cells
 pub mod Layouts
+pub mod Operators
 pub mod Parts
 pub mod Ranges
 pub mod RowsBehind

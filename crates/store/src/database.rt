@@ -7,20 +7,13 @@ ghost use Rattle.store.specs.Database.{table_start, database_right};
 
 use crate::MOST_ROWS;
 use crate::cells::all_in_range;
-use plan::words::{table_width, tables, wide};
+use plan::words::{table_width, tables};
 
 // Every row count is within the limit.
 fn counts_right(counts: &[u32]) -> bool
     ensures { result ≡ all (λ c. leb c 4096) counts.now }
 {
-    let mut i = 0;
-    while i < counts.len() {
-        if MOST_ROWS < counts[i] {
-            return false;
-        }
-        i += 1;
-    }
-    true
+    counts.iter().all(|c| *c <= MOST_ROWS)
 }
 
 // Where the cells of table t begin.
@@ -30,10 +23,8 @@ pub fn table_start(words: &[u32], counts: &[u32], t: u32) -> usize
     ensures { (result ≡ table_start words.now counts.now t) × (result ≤ 4194304) }
 {
     let mut at: usize = 0;
-    let mut i = 0;
-    while i < t {
-        at += wide(counts[wide(i)]) * wide(table_width(words, i));
-        i += 1;
+    for i in 0..t {
+        at += counts[i as usize] as usize * table_width(words, i) as usize;
     }
     at
 }
@@ -42,7 +33,7 @@ pub fn database_right(words: &[u32], counts: &[u32], cells: &[i64]) -> bool
     requires { Sized words.now }
     ensures { result ≡ database_right words.now counts.now cells.now }
 {
-    if counts.len() != wide(tables(words)) {
+    if counts.len() != tables(words) as usize {
         return false;
     }
     if !counts_right(counts) {

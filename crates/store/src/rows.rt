@@ -3,21 +3,12 @@ ghost use Rattle.std.specs.Prelude.{◌≡◌, cond, map, ◌+◌, ◌*◌, ◌-
 ghost use Rattle.store.specs.Cells.{cell, written};
 ghost use Rattle.store.specs.Rows.{source, place_of, row_of, Stands, Input};
 
-use crate::cells::{copy_cells, copy_within};
-
 #[derive(Clone, Copy)]
 pub struct Block {
     pub table: bool,
     pub from: usize,
     pub width: usize,
     pub count: usize,
-}
-
-// A row number as an index.
-pub fn row_number(x: u16) -> usize
-    ensures { result ≡ x }
-{
-    x as usize
 }
 
 // A part of either of the two.
@@ -58,8 +49,8 @@ pub fn copy_row(cells: &[i64], b: Block, i: usize, to: usize, scratch: &mut [i64
 {
     let from = b.from + i * b.width;
     if b.table {
-        copy_cells(cells, from, scratch, to, b.width);
+        scratch[to..to + b.width].copy_from_slice(&cells[from..from + b.width]);
     } else {
-        copy_within(scratch, from, to, b.width);
+        scratch.copy_within(from..from + b.width, to);
     }
 }

@@ -8,10 +8,9 @@ use lib.Dec.{ltb}
 use lib.ListN.{length, take, drop}
 use lib.Seq.{take-take}
 use borrow.Author.Tests.{ltb-true, ltb-false, lt-ltb, le-ltb}
-use Rattle.text.specs.declared.form.Sizes.{Sizes}
+use Rattle.text.specs.Reading.{Counts, Front, found, bad, head_in, forms, header, Lines, right, wrong, behind, lines_in, Given, words, bad_line, ended, table_in, read}
 use Rattle.text.specs.Text.{text_of}
 use Rattle.text.specs.Steps.{lines_text}
-use Rattle.text.specs.Reading.{Front, found, bad, head_in, forms, header, Lines, right, wrong, behind, lines_in, Given, words, bad_line, ended, table_in, read}
 use Rattle.text.specs.Lines.{lines, Table, Agrees, FirstBad}
 use Rattle.text.specs.Answers.{taken, onto, writing, text_after, reading, words_after}
 use Rattle.plan.proofs.Laws.Header.{header_says, limits_say}
@@ -34,7 +33,7 @@ too_long text h = rw (lt-ltb 262144 (length text) h)
 
 -- ---- what was written
 
-table_read : (s : Sizes) (body : List ℕ) → Limited s → BodyFits (forms s) body → table_in (head_in (head_text s ++ lines_text (forms s) body)) ≡ words (header s ++ body)
+table_read : (s : Counts) (body : List ℕ) → Limited s → BodyFits (forms s) body → table_in (head_in (head_text s ++ lines_text (forms s) body)) ≡ words (header s ++ body)
 table_read s body f t =
     let e : lines_in (forms s) 2 (lines_text (forms s) body) ≡ right body [] = rw append-nil at (body_read (forms s) 2 body [] t) in
     rw (head_read s (lines_text (forms s) body) f, e)
@@ -62,7 +61,7 @@ pub accepted_is_written : (text ws : List ℕ) → read text ≡ words ws → Ta
 unfolding read
 accepted_is_written text ws q = go (ltb 262144 (length text)) q
   where
-    body : (s : Sizes) (rest : List ℕ) → Limited s × (text ≡ head_text s ++ rest) → (r : Lines) → lines_in (forms s) 2 rest ≡ r
+    body : (s : Counts) (rest : List ℕ) → Limited s × (text ≡ head_text s ++ rest) → (r : Lines) → lines_in (forms s) 2 rest ≡ r
         → ended (3 + s.nodes + s.items) (behind (header s) r) ≡ words ws → Table ws × (text ≡ text_of ws)
     body s rest h (wrong l) e d = let z : ◌≡◌ {A = ℕ} 0 1 = cc in absurd (omega arith)
     body s rest h (right vs (b ∷ bs)) e d = let z : ◌≡◌ {A = ℕ} 0 1 = cc in absurd (omega arith)
@@ -74,7 +73,7 @@ accepted_is_written text ws q = go (ltb 262144 (length text)) q
         let r : Table (header s ++ vs) × (text ≡ text_of (header s ++ vs)) = (table_of s vs h.0 b.0, written) in
         rw p at r
 
-    head : (f : Front Sizes) → head_in text ≡ f → table_in f ≡ words ws → Table ws × (text ≡ text_of ws)
+    head : (f : Front Counts) → head_in text ≡ f → table_in f ≡ words ws → Table ws × (text ≡ text_of ws)
     head bad e d = let z : ◌≡◌ {A = ℕ} 0 1 = cc in absurd (omega arith)
     head (found s rest) e d = body s rest (head_is text s rest e) (lines_in (forms s) 2 rest) refl d
 

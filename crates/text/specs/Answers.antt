@@ -1,10 +1,10 @@
 -- What the writer and the reader answer, and what stands in the lent slice then: "all leave the slice".
-use Rattle.std.specs.Prelude.{not, cond, List, ◌++◌, ℕ, ltb, eqb, length, drop}
+use Rattle.std.specs.Prelude.{not, cond, List, ◌++◌, ℕ, ltb, eqb, length, drop, Result, Ok, Err}
 use Rattle.plan.specs.Verdict.{CountedAnswer, header_right, limits_right}
-use Rattle.text.specs.declared.Written.{Written}
-use Rattle.text.specs.declared.Written.TheVariants.{Bytes, Header, Limits, NoRoom}
-use Rattle.text.specs.declared.Read.{Read}
-use Rattle.text.specs.declared.Read.TheVariants.{Words, BadLine, TooShort}
+use Rattle.text.specs.declared.WriteRefusal.{WriteRefusal}
+use Rattle.text.specs.declared.WriteRefusal.TheVariants.{Header, Limits, NoRoom}
+use Rattle.text.specs.declared.ReadRefusal.{ReadRefusal}
+use Rattle.text.specs.declared.ReadRefusal.TheVariants.{BadLine, TooShort}
 use Rattle.text.specs.Text.{text_of}
 use Rattle.text.specs.Reading.{Given, words, bad_line, read}
 
@@ -30,11 +30,14 @@ writing ws room =
 unfoldable pub text_after : List ℕ → List ℕ → List ℕ
 text_after ws text = cond (eqb (writing ws (length text)).number 0) (onto (text_of ws) text) text
 
-abbrev pub written_of : Written → CountedAnswer
-written_of (Bytes n) = taken n
-written_of Header = refused 1 0
-written_of Limits = refused 2 0
-written_of NoRoom = refused 17 0
+abbrev pub write_refusal_number : WriteRefusal → ℕ
+write_refusal_number Header = 1
+write_refusal_number Limits = 2
+write_refusal_number NoRoom = 17
+
+abbrev pub written_of : Result ℕ WriteRefusal → CountedAnswer
+written_of (Ok n) = taken n
+written_of (Err r) = refused (write_refusal_number r) 0
 
 -- ---- the reader: "16, .. with the line number from 1", "17, with 0, slice too short, after 16"
 
@@ -52,7 +55,14 @@ reading text room = answer_to (read text) room
 unfoldable pub words_after : List ℕ → List ℕ → List ℕ
 words_after text old = content_of (read text) old
 
-abbrev pub read_of : Read → CountedAnswer
-read_of (Words n) = taken n
-read_of (BadLine l) = refused 16 l
-read_of TooShort = refused 17 0
+abbrev pub read_refusal_number : ReadRefusal → ℕ
+read_refusal_number (BadLine l) = 16
+read_refusal_number TooShort = 17
+
+abbrev pub read_refusal_line : ReadRefusal → ℕ
+read_refusal_line (BadLine l) = l
+read_refusal_line TooShort = 0
+
+abbrev pub read_of : Result ℕ ReadRefusal → CountedAnswer
+read_of (Ok n) = taken n
+read_of (Err r) = refused (read_refusal_number r) (read_refusal_line r)

@@ -3,7 +3,12 @@ use Rattle.std.specs.Prelude.{Bool, true, false, cond, ◌&&◌, ◌||◌, List,
 use Rattle.plan.specs.Words.{header_of}
 use Rattle.plan.specs.Items.{between}
 use Rattle.text.specs.declared.form.Form.{Form}
-use Rattle.text.specs.declared.form.Sizes.{Sizes}
+
+-- T, N and I
+pub record Counts : Type 0 where
+  pub tables : ℕ
+  pub nodes : ℕ
+  pub items : ℕ
 
 -- what stands in front of a text, and the bytes behind it; or the front is not of the form
 pub data Front (A : Type 0) : Type 0 where
@@ -59,7 +64,7 @@ abbrev pub line_in : Form → List ℕ → Front (List ℕ)
 line_in form bs = words_in form form.count [] bs
 
 -- the first line: "T is 1..16, N 1..256, I 0..2,000"
-unfoldable pub head_in : List ℕ → Front Sizes
+unfoldable pub head_in : List ℕ → Front Counts
 head_in bs =
     and_then (word_in 1 16 32 bs) (λ t behind_t.
     and_then (word_in 1 256 32 behind_t) (λ n behind_n.
@@ -75,7 +80,7 @@ node_form = record { count = 6; low = 0; high = 2 ^ 32 - 1; item = false }
 abbrev pub item_form : Form
 item_form = record { count = 7; low = 0; high = 2 ^ 32 - 1; item = true }
 
-unfoldable pub forms : Sizes → List Form
+unfoldable pub forms : Counts → List Form
 forms s = widths_form s.tables ∷ (replicate s.nodes node_form ++ replicate s.items item_form)
 
 -- ---- texts
@@ -101,7 +106,7 @@ lines_in [] l bs = right [] bs
 lines_in (form ∷ fs) l bs = line_then l (line_in form bs) (λ rest. lines_in fs (suc l) rest)
 
 -- the header that T, N and I make
-abbrev pub header : Sizes → List ℕ
+abbrev pub header : Counts → List ℕ
 header s = header_of s.tables s.nodes s.items
 
 -- what a text gives: words, or the number of a line
@@ -115,7 +120,7 @@ ended l (wrong k) = bad_line k
 ended l (right ws []) = words ws
 ended l (right ws (b ∷ bs)) = bad_line l
 
-abbrev pub table_in : Front Sizes → Given
+abbrev pub table_in : Front Counts → Given
 table_in bad = bad_line 1
 table_in (found s rest) = ended (3 + s.nodes + s.items) (behind (header s) (lines_in (forms s) 2 rest))
 

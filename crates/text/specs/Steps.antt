@@ -1,22 +1,17 @@
 -- What the functions inside hand on: the answers of the reader's steps, and the text of words one behind the other.
-use Rattle.std.specs.Prelude.{◌≡◌, Bool, cond, ◌&&◌, List, [], ◌∷◌, ◌++◌, ℕ, ◌+◌, ◌<◌, ◌≤◌, length, take, drop}
+use Rattle.std.specs.Prelude.{◌≡◌, Bool, cond, ◌&&◌, List, [], ◌∷◌, ◌++◌, ℕ, ◌+◌, ◌<◌, ◌≤◌, length, take, drop, Option, Some, None, Result, Ok, Err}
 use Rattle.std.proofs.lemmas.List.Edits.{sets}
 use Rattle.algebra.specs.Lists.{is_empty}
 use Rattle.text.specs.declared.form.Form.{Form}
 use Rattle.text.specs.declared.form.Sizes.{Sizes}
 use Rattle.text.specs.declared.numbers.Digits.{Digits}
 use Rattle.text.specs.declared.numbers.Field.{Field}
-use Rattle.text.specs.declared.numbers.Field.TheVariants.{Word, NoWord}
-use Rattle.text.specs.declared.lines.Line.{Line}
-use Rattle.text.specs.declared.lines.Line.TheVariants.{Next, NoLine}
-use Rattle.text.specs.declared.lines.Body.{Body}
-use Rattle.text.specs.declared.lines.Body.TheVariants.{End, BadAt}
-use Rattle.text.specs.declared.lines.Head.{Head}
-use Rattle.text.specs.declared.lines.Head.TheVariants.{Found, NoHead}
-use Rattle.text.specs.declared.lines.Judged.{Judged}
-use Rattle.text.specs.declared.lines.Judged.TheVariants.{Words, Bad}
 use Rattle.text.specs.Numbers.{decimal, signed}
-use Rattle.text.specs.Reading.{Front, found, bad, ended_by, constant_next, line_in, head_in, forms, right, wrong, lines_in, header, Given, words, bad_line}
+use Rattle.text.specs.Reading.{Counts, Front, found, bad, ended_by, constant_next, line_in, head_in, forms, right, wrong, lines_in, header, Given, words, bad_line}
+
+-- T, N and I without what the code knows of them
+abbrev pub counts : Sizes → Counts
+counts s = record { tables = s.tables; nodes = s.nodes; items = s.items }
 
 -- ---- reading
 
@@ -24,34 +19,36 @@ use Rattle.text.specs.Reading.{Front, found, bad, ended_by, constant_next, line_
 abbrev pub SaysUpTo : List ℕ → ℕ → Digits → Front ℕ → Type 0
 SaysUpTo text high d front = (low e : ℕ) → ended_by low high e (found d.value (drop d.next text)) ≡ ended_by low high e front
 
-abbrev pub field_of : List ℕ → Field → Front ℕ
-field_of text (Word w next) = found w (drop next text)
-field_of text NoWord = bad
+-- such digits, or no number
+abbrev pub NumberRead : List ℕ → ℕ → Front ℕ → Option Digits → Type 0
+NumberRead text high front (Some d) = SaysUpTo text high d front
+NumberRead text high front None = front ≡ bad
 
-abbrev pub place_of : Field → ℕ
-place_of (Word w next) = next
-place_of NoWord = 0
+-- a word with the byte behind it, or none
+abbrev pub FieldRead : List ℕ → Front ℕ → Option Field → Type 0
+FieldRead text front (Some f) = (front ≡ found f.word (drop f.next text)) × (f.next ≤ length text)
+FieldRead text front None = front ≡ bad
 
 -- a line from a place on, its words stored from place to on
-abbrev pub LineRead : List ℕ → ℕ → Form → List ℕ → ℕ → List ℕ → Line → Type 0
-LineRead text at form entry to exit (Next next) =
+abbrev pub LineRead : List ℕ → ℕ → Form → List ℕ → ℕ → List ℕ → Option ℕ → Type 0
+LineRead text at form entry to exit (Some next) =
     (next ≤ length text) × ((xs : List ℕ) × (length xs ≡ form.count) × (line_in form (drop at text) ≡ found xs (drop next text)) × (exit ≡ sets entry to xs))
-LineRead text at form entry to exit NoLine = line_in form (drop at text) ≡ bad
+LineRead text at form entry to exit None = line_in form (drop at text) ≡ bad
 
--- the lines behind the first, their words stored from place 8 on; last is the place behind them
-abbrev pub BodyRead : List ℕ → ℕ → Sizes → List ℕ → List ℕ → Body → Type 0
-BodyRead text at s entry exit (End next last) =
-    (next ≤ length text) × (last < 65536)
-    × ((ws : List ℕ) × (last ≡ length (header s ++ ws)) × (lines_in (forms s) 2 (drop at text) ≡ right ws (drop next text)) × (exit ≡ sets entry 8 ws))
-BodyRead text at s entry exit (BadAt l) = lines_in (forms s) 2 (drop at text) ≡ wrong l
+-- the lines behind the first, their words stored from place 8 on: the places behind them and behind the words, or the number of a line
+abbrev pub BodyRead : List ℕ → ℕ → Counts → List ℕ → List ℕ → Result (ℕ × ℕ) ℕ → Type 0
+BodyRead text at s entry exit (Ok b) =
+    (b.0 ≤ length text) × (b.1 < 65536)
+    × ((ws : List ℕ) × (b.1 ≡ length (header s ++ ws)) × (lines_in (forms s) 2 (drop at text) ≡ right ws (drop b.0 text)) × (exit ≡ sets entry 8 ws))
+BodyRead text at s entry exit (Err l) = lines_in (forms s) 2 (drop at text) ≡ wrong l
 
-abbrev pub HeadRead : List ℕ → Head → Type 0
-HeadRead text (Found s next) = (head_in text ≡ found s (drop next text)) × (next ≤ length text)
-HeadRead text NoHead = head_in text ≡ bad
+abbrev pub HeadRead : List ℕ → Option (Sizes × ℕ) → Type 0
+HeadRead text (Some h) = (head_in text ≡ found (counts h.0) (drop h.1 text)) × (h.1 ≤ length text)
+HeadRead text None = head_in text ≡ bad
 
-abbrev pub TableRead : Given → List ℕ → List ℕ → Judged → Type 0
-TableRead given entry exit (Words count) = (count < 65536) × ((ws : List ℕ) × (count ≡ length ws) × (given ≡ words ws) × (exit ≡ sets entry 0 ws))
-TableRead given entry exit (Bad l) = given ≡ bad_line l
+abbrev pub TableRead : Given → List ℕ → List ℕ → Result ℕ ℕ → Type 0
+TableRead given entry exit (Ok count) = (count < 65536) × ((ws : List ℕ) × (count ≡ length ws) × (given ≡ words ws) × (exit ≡ sets entry 0 ws))
+TableRead given entry exit (Err l) = given ≡ bad_line l
 
 -- ---- writing
 

@@ -1,164 +1,103 @@
 // A text read line by line, its words stored where the slice has their places.
-ghost use Rattle.std.specs.Prelude.{◌≡◌, cond, ◌+◌, ◌≤◌, ◌<◌, length, drop};
+ghost use Rattle.std.specs.Prelude.{◌≡◌, cond, ◌≤◌, ◌<◌, length, drop};
 ghost use Rattle.std.proofs.lemmas.List.Edits.{sets};
 ghost use Rattle.text.specs.Reading.{constant_in, word_in, header, head_in, table_in};
-ghost use Rattle.text.specs.Steps.{field_of, place_of, LineRead, BodyRead, HeadRead, TableRead};
+ghost use Rattle.text.specs.Steps.{counts, FieldRead, LineRead, BodyRead, HeadRead, TableRead};
 
-use crate::bytes::put_word;
-use crate::form::{Form, Sizes, end_of, form_at, is_constant};
+use crate::form::{Form, Sizes, end_of, is_constant};
 use crate::numbers::{Field, constant, word};
+use crate::place::put;
 use plan::Plan;
-use plan::words::wide;
-
-// The place behind a line.
-#[derive(Clone, Copy)]
-pub enum Line {
-    Next(usize),
-    NoLine,
-}
-
-// The place behind the last line and the place behind the last word, or the number of a line.
-#[derive(Clone, Copy)]
-pub enum Body {
-    End(usize, usize),
-    BadAt(u32),
-}
-
-#[derive(Clone, Copy)]
-pub enum Head {
-    Found(Sizes, usize),
-    NoHead,
-}
-
-// How many words, or the number of a line.
-#[derive(Clone, Copy)]
-pub enum Judged {
-    Words(usize),
-    Bad(u32),
-}
 
 // The word at a place of a line.
-fn field(text: &[u8], at: usize, form: Form, signed: bool, end: u8) -> Field
-    ensures result_value { field_of text.now result ≡ cond signed (constant_in end (drop at text.now)) (word_in form.low form.high end (drop at text.now)) }
-    ensures result_in_bounds { place_of result ≤ length text.now }
+fn field(text: &[u8], at: usize, form: Form, signed: bool, end: u8) -> Option<Field>
+    ensures { let front = drop at text.now in
+        FieldRead text.now (cond signed (constant_in end front) (word_in form.low form.high end front)) result }
 {
     if signed {
-        return constant(text, at, end);
+        constant(text, at, end)
+    } else {
+        word(text, at, form.low, form.high, end)
     }
-    word(text, at, form.low, form.high, end)
 }
 
-// One line, its words stored from place to on.
-fn read_line(text: &[u8], at: usize, form: Form, words: &mut [u32], to: usize) -> Line
+// One line, its words stored from place to on; the place behind it.
+fn read_line(text: &[u8], at: usize, form: Form, words: &mut [u32], to: usize) -> Option<usize>
     requires at_in_bounds { at ≤ length text.now }
     requires to_bound { to < 65536 }
     requires count_bound { form.count ≤ 16 }
     ensures { LineRead text.now at form words.old to words.new result }
 {
-    let count = wide(form.count);
-    let mut j = 0;
+    let count = form.count as usize;
     let mut next = at;
     let mut last = 0;
     let mut before = 0;
-    while j < count {
+    for j in 0..count {
         let signed = is_constant(form.item, j, before);
-        let f = field(text, next, form, signed, end_of(j, count));
-        let Field::Word(w, place) = f else {
-            return Line::NoLine;
-        };
-        put_word(words, to + j, w);
-        next = place;
+        let f = field(text, next, form, signed, end_of(j, count))?;
+        put(words, to + j, f.word);
+        next = f.next;
         before = last;
-        last = w;
-        j += 1;
+        last = f.word;
     }
-    Line::Next(next)
+    Some(next)
 }
 
-// The lines behind the first, their words stored from place 8 on.
-fn read_body(text: &[u8], at: usize, s: Sizes, words: &mut [u32]) -> Body
-    requires at_in_bounds { at ≤ length text.now }
-    requires tables_bound { s.tables ≤ 16 }
-    requires nodes_bound { s.nodes ≤ 256 }
-    requires s_bound { s.items ≤ 2000 }
-    ensures { BodyRead text.now at s words.old words.new result }
+// The lines behind the first, their words stored from place 8 on: the places behind the last
+// line and behind the last word, or the number of a line that is bad.
+fn read_body(text: &[u8], at: usize, s: Sizes, words: &mut [u32]) -> Result<(usize, usize), u32>
+    requires { at ≤ length text.now }
+    ensures { BodyRead text.now at (counts s) words.old words.new result }
 {
-    let count = 1 + s.nodes + s.items;
-    let mut k = 0;
     let mut next = at;
     let mut to = 8;
-    while k < count {
-        let form = form_at(s, k);
-        let l = read_line(text, next, form, words, to);
-        let Line::Next(place) = l else {
-            return Body::BadAt(2 + k);
-        };
-        next = place;
-        to += wide(form.count);
-        k += 1;
+    for k in 0..s.line_count() {
+        let form = s.form_at(k);
+        next = read_line(text, next, form, words, to).ok_or(2 + k)?;
+        to += form.count as usize;
     }
-    Body::End(next, to)
+    Ok((next, to))
 }
 
-// T, N and I.
-fn read_head(text: &[u8]) -> Head
+// T, N and I, and the place behind them.
+fn read_head(text: &[u8]) -> Option<(Sizes, usize)>
     ensures { HeadRead text.now result }
 {
-    let f = word(text, 0, 1, Plan::TABLES, b' ');
-    let Field::Word(tables, at) = f else {
-        return Head::NoHead;
-    };
-    let f = word(text, at, 1, Plan::NODES, b' ');
-    let Field::Word(nodes, at) = f else {
-        return Head::NoHead;
-    };
-    let f = word(text, at, 0, Plan::ITEMS, b'\n');
-    let Field::Word(items, at) = f else {
-        return Head::NoHead;
-    };
+    let tables = word(text, 0, 1, Plan::TABLES, b' ')?;
+    let nodes = word(text, tables.next, 1, Plan::NODES, b' ')?;
+    let items = word(text, nodes.next, 0, Plan::ITEMS, b'\n')?;
     let s = Sizes {
-        tables,
-        nodes,
-        items,
+        tables: tables.word,
+        nodes: nodes.word,
+        items: items.word,
     };
-    Head::Found(s, at)
+    Some((s, items.next))
 }
 
+// The eight words in front, which T, N and I give.
 fn put_header(words: &mut [u32], s: Sizes)
-    requires tables_bound { s.tables ≤ 16 }
-    requires nodes_bound { s.nodes ≤ 256 }
-    requires s_bound { s.items ≤ 2000 }
-    ensures { words.new ≡ sets words.old 0 (header s) }
+    ensures { words.new ≡ sets words.old 0 (header (counts s)) }
 {
     let at_nodes = 8 + s.tables;
     let at_items = at_nodes + 6 * s.nodes;
-    put_word(words, 0, at_items + 7 * s.items);
-    put_word(words, 1, s.tables);
-    put_word(words, 2, 8);
-    put_word(words, 3, s.nodes);
-    put_word(words, 4, at_nodes);
-    put_word(words, 5, s.items);
-    put_word(words, 6, at_items);
-    put_word(words, 7, 0);
+    let total = at_items + 7 * s.items;
+    let header = [total, s.tables, 8, s.nodes, at_nodes, s.items, at_items, 0];
+    for (i, &w) in header.iter().enumerate() {
+        put(words, i, w);
+    }
 }
 
-// A whole text; what is stored where a line is bad is no one's.
-pub fn read_table(text: &[u8], words: &mut [u32]) -> Judged
+// A whole text: how many words, or the number of a line; what is stored where a line is bad is no one's.
+pub fn read_table(text: &[u8], words: &mut [u32]) -> Result<usize, u32>
     ensures { TableRead (table_in (head_in text.now)) words.old words.new result }
 {
-    let h = read_head(text);
-    let Head::Found(s, at) = h else {
-        return Judged::Bad(1);
+    let Some((s, at)) = read_head(text) else {
+        return Err(1);
     };
     put_header(words, s);
-    let b = read_body(text, at, s, words);
-    match b {
-        Body::BadAt(l) => Judged::Bad(l),
-        Body::End(next, last) => {
-            if next < text.len() {
-                return Judged::Bad(3 + s.nodes + s.items);
-            }
-            Judged::Words(last)
-        }
+    let (next, count) = read_body(text, at, s, words)?;
+    if next < text.len() {
+        return Err(2 + s.line_count());
     }
+    Ok(count)
 }

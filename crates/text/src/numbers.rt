@@ -1,19 +1,18 @@
 // A number in front of a text, and the byte behind it.
-ghost use Rattle.std.specs.Prelude.{◌≡◌, ◌≤◌, ◌<◌, ◌^◌, length, drop};
-ghost use Rattle.plan.specs.Items.{between};
+ghost use Rattle.std.specs.Prelude.{◌≡◌, ◌<◌, ◌^◌, drop, Some};
 ghost use Rattle.text.specs.Reading.{digits_on, number_in, word_in, constant_in};
-ghost use Rattle.text.specs.Steps.{SaysUpTo, field_of, place_of};
+ghost use Rattle.text.specs.Steps.{SaysUpTo, NumberRead, FieldRead};
 
-use crate::bytes::byte;
+use crate::place::byte;
 
-// The byte of the digit 0.
-const ZERO: u64 = 48;
+// A constant is stored modulo 2^32: the words from here on are the negative ones.
+pub const NEGATIVE: u32 = 0x8000_0000;
 
 // A word, and the place behind the byte that ends it.
 #[derive(Clone, Copy)]
-pub enum Field {
-    Word(u32, usize),
-    NoWord,
+pub struct Field {
+    pub word: u32,
+    pub next: usize,
 }
 
 // What digits say, and the place behind them.
@@ -23,106 +22,71 @@ pub struct Digits {
     pub next: usize,
 }
 
-fn wide(b: u8) -> u64
-    ensures { result ≡ b }
-{
-    b as u64
-}
-
-fn word_wide(w: u32) -> u64
-    ensures { result ≡ w }
-{
-    w as u64
-}
-
-fn is_digit(b: u8) -> bool
-    ensures { result ≡ between 48 57 b }
-{
-    if b < b'0' {
-        return false;
-    }
-    b <= b'9'
-}
-
-// The digits from a place on, behind digits that say value; it stops at a value past high.
-fn digits_on(text: &[u8], at: usize, value: u64, high: u64) -> Digits
-    requires value_bound { value < 10 }
+// The digits from a place on, behind digits that say first; it stops at a value past high.
+fn digits_on(text: &[u8], at: usize, first: u64, high: u64) -> Digits
+    requires first_bound { first < 10 }
     requires high_bound { high < 2 ^ 32 }
-    ensures { SaysUpTo text.now high result (digits_on value (drop at text.now)) }
+    ensures { SaysUpTo text.now high result (digits_on first (drop at text.now)) }
 {
-    let mut v = value;
-    let mut i = at;
-    while v <= high {
-        let b = byte(text, i);
-        if !is_digit(b) {
-            return Digits { value: v, next: i };
+    let mut value = first;
+    for i in at..text.len() {
+        let b = text[i];
+        if high < value || !b.is_ascii_digit() {
+            return Digits { value, next: i };
         }
-        v = 10 * v + (wide(b) - ZERO);
-        i += 1;
+        value = 10 * value + (b - b'0') as u64;
     }
-    Digits { value: v, next: i }
+    Digits {
+        value,
+        next: text.len(),
+    }
 }
 
-// The number at a place; a value past high where there is none.
-fn number(text: &[u8], at: usize, high: u64) -> Digits
+// The number at a place, if one is there; one past high is not read to its end.
+fn number(text: &[u8], at: usize, high: u64) -> Option<Digits>
     requires { high < 2 ^ 32 }
-    ensures { SaysUpTo text.now high result (number_in (drop at text.now)) }
+    ensures { NumberRead text.now high (number_in (drop at text.now)) result }
 {
     let b = byte(text, at);
-    if !is_digit(b) {
-        return Digits {
-            value: high + 1,
-            next: at,
-        };
+    if !b.is_ascii_digit() {
+        return None;
     }
     if b == b'0' {
-        return Digits {
+        return Some(Digits {
             value: 0,
             next: at + 1,
-        };
+        });
     }
-    digits_on(text, at + 1, wide(b) - ZERO, high)
+    Some(digits_on(text, at + 1, (b - b'0') as u64, high))
 }
 
 // A number from low to high, with the byte end behind it.
-pub fn word(text: &[u8], at: usize, low: u32, high: u32, end: u8) -> Field
-    ensures result_value { field_of text.now result ≡ word_in low high end (drop at text.now) }
-    ensures result_in_bounds { place_of result ≤ length text.now }
+pub fn word(text: &[u8], at: usize, low: u32, high: u32, end: u8) -> Option<Field>
+    ensures { FieldRead text.now (word_in low high end (drop at text.now)) result }
 {
-    let top = word_wide(high);
-    let d = number(text, at, top);
-    let value = d.value;
-    let next = d.next;
-    if value < word_wide(low) {
-        return Field::NoWord;
+    let Digits { value, next } = number(text, at, high as u64)?;
+    if value < low as u64 || value > high as u64 {
+        return None;
     }
-    if top < value {
-        return Field::NoWord;
+    if text.len() <= next || text[next] != end {
+        return None;
     }
-    if text.len() <= next {
-        return Field::NoWord;
-    }
-    if text[next] != end {
-        return Field::NoWord;
-    }
-    let w = value as u32;
-    Field::Word(w, next + 1)
+    Some(Field {
+        word: value as u32,
+        next: next + 1,
+    })
 }
 
 // A constant, with the byte end behind it: stored modulo 2^32.
-pub fn constant(text: &[u8], at: usize, end: u8) -> Field
-    ensures result_value { field_of text.now result ≡ constant_in end (drop at text.now) }
-    ensures result_in_bounds { place_of result ≤ length text.now }
+pub fn constant(text: &[u8], at: usize, end: u8) -> Option<Field>
+    ensures { FieldRead text.now (constant_in end (drop at text.now)) result }
 {
     if byte(text, at) != b'-' {
-        return word(text, at, 0, 2147483647, end);
+        return word(text, at, 0, NEGATIVE - 1, end);
     }
-    let f = word(text, at + 1, 1, 2147483648, end);
-    match f {
-        Field::NoWord => Field::NoWord,
-        Field::Word(v, next) => {
-            let w = (4294967296 - word_wide(v)) as u32;
-            Field::Word(w, next)
-        }
-    }
+    let f = word(text, at + 1, 1, NEGATIVE, end)?;
+    Some(Field {
+        word: f.word.wrapping_neg(),
+        next: f.next,
+    })
 }

@@ -4,45 +4,22 @@ ghost use Rattle.plan.specs.Verdict.{header_right, limits_right};
 ghost use Rattle.text.specs.Numbers.{decimal};
 ghost use Rattle.text.specs.Text.{text_of};
 ghost use Rattle.text.specs.Reading.{forms};
-ghost use Rattle.text.specs.Steps.{number, line_text, lines_text, WrittenTo};
+ghost use Rattle.text.specs.Steps.{counts, number, line_text, lines_text, WrittenTo};
 
-use crate::bytes::put_byte;
-use crate::form::{Sizes, end_of, form_at, is_constant};
-use plan::words::{items, nodes, tables, wide};
+use crate::form::{Sizes, end_of, is_constant};
+use crate::numbers::NEGATIVE;
+use crate::place::put;
+use plan::words::{items, nodes, tables};
 
 // How many digits a number has.
 fn digit_count(n: u32) -> usize
     ensures value { result ≡ length (decimal n) }
     ensures upper_bound { result ≤ 10 }
 {
-    if n < 10 {
-        return 1;
+    match n.checked_ilog10() {
+        Some(power) => power as usize + 1,
+        None => 1,
     }
-    if n < 100 {
-        return 2;
-    }
-    if n < 1000 {
-        return 3;
-    }
-    if n < 10000 {
-        return 4;
-    }
-    if n < 100000 {
-        return 5;
-    }
-    if n < 1000000 {
-        return 6;
-    }
-    if n < 10000000 {
-        return 7;
-    }
-    if n < 100000000 {
-        return 8;
-    }
-    if n < 1000000000 {
-        return 9;
-    }
-    10
 }
 
 // A number in decimal, the last digit first; the place behind it.
@@ -52,11 +29,9 @@ fn write_decimal(n: u32, text: &mut [u8], at: usize) -> usize
     ensures upper_bound { result ≤ at + 10 }
 {
     let count = digit_count(n);
-    let mut k = count;
     let mut rest = n;
-    while 0 < k {
-        k -= 1;
-        put_byte(text, at + k, b'0' + (rest % 10) as u8);
+    for k in (0..count).rev() {
+        put(text, at + k, b'0' + (rest % 10) as u8);
         rest /= 10;
     }
     at + count
@@ -68,14 +43,11 @@ fn write_number(w: u32, constant: bool, text: &mut [u8], at: usize) -> usize
     ensures written_to { WrittenTo text.old at (number constant w) text.new result }
     ensures upper_bound { result ≤ at + 11 }
 {
-    if !constant {
+    if !constant || w < NEGATIVE {
         return write_decimal(w, text, at);
     }
-    if w < 2147483648 {
-        return write_decimal(w, text, at);
-    }
-    put_byte(text, at, b'-');
-    write_decimal(4294967295 - w + 1, text, at + 1)
+    put(text, at, b'-');
+    write_decimal(w.wrapping_neg(), text, at + 1)
 }
 
 // A line of the words of row.
@@ -85,18 +57,15 @@ fn write_line(row: &[u32], item: bool, text: &mut [u8], at: usize) -> usize
     ensures written_to { WrittenTo text.old at (line_text item row.now) text.new result }
     ensures upper_bound { result ≤ at + 192 }
 {
-    let mut j = 0;
     let mut next = at;
     let mut last = 0;
     let mut before = 0;
-    while j < row.len() {
-        let w = row[j];
+    for (j, &w) in row.iter().enumerate() {
         next = write_number(w, is_constant(item, j, before), text, next);
-        put_byte(text, next, end_of(j, row.len()));
+        put(text, next, end_of(j, row.len()));
         next += 1;
         before = last;
         last = w;
-        j += 1;
     }
     next
 }
@@ -104,31 +73,25 @@ fn write_line(row: &[u32], item: bool, text: &mut [u8], at: usize) -> usize
 // The lines behind the first.
 fn write_body(words: &[u32], s: Sizes, text: &mut [u8], at: usize) -> usize
     requires at_bound { at < 2 ^ 29 }
-    requires tables_bound { s.tables ≤ 16 }
-    requires nodes_bound { s.nodes ≤ 256 }
-    requires s_bound { s.items ≤ 2000 }
-    requires s_in_bounds { 8 + s.tables + 6 * s.nodes + 7 * s.items ≤ length words.now }
-    ensures written_to { WrittenTo text.old at (lines_text (forms s) (drop 8 words.now)) text.new result }
+    requires words_there { 8 + s.tables + 6 * s.nodes + 7 * s.items ≤ length words.now }
+    ensures written_to { WrittenTo text.old at (lines_text (forms (counts s)) (drop 8 words.now)) text.new result }
     ensures upper_bound { result ≤ at + 600000 }
 {
-    let count = 1 + s.nodes + s.items;
-    let mut k = 0;
     let mut next = at;
     let mut from = 8;
-    while k < count {
-        let form = form_at(s, k);
-        let to = from + wide(form.count);
+    for k in 0..s.line_count() {
+        let form = s.form_at(k);
+        let to = from + form.count as usize;
         next = write_line(&words[from..to], form.item, text, next);
         from = to;
-        k += 1;
     }
     next
 }
 
 // The whole text; its length.
 pub fn write_table(words: &[u32], text: &mut [u8]) -> usize
-    requires words_value { header_right words.now ≡ true }
-    requires words_value_2 { limits_right words.now ≡ true }
+    requires header { header_right words.now ≡ true }
+    requires limits { limits_right words.now ≡ true }
     ensures written_to { WrittenTo text.old 0 (text_of words.now) text.new result }
     ensures upper_bound { result < 2 ^ 32 }
 {

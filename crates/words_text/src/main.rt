@@ -1,38 +1,22 @@
 // Reads plan words from standard input, least byte first, and prints their text.
 #![tactic(auto)]
 
-use plan::words::wide;
-use programs::{Input, Longest, STDOUT_FILENO, print_refused, read_words};
-use text::{Text, Written, write_text};
+use programs::{INPUT_WORDS, front, print_refused, read_words};
+use std::io;
+use text::{Text, write_text};
 
-fn print_front(text: &[u8], count: usize) {
-    if count <= text.len() {
-        io::write_all(STDOUT_FILENO, &text[..count]);
-    }
-}
-
-fn print_text(words: &[u32]) {
+fn print_text(rt: &impl Print, words: &[u32]) -> io::Result<()> {
     let mut text = [0u8; Text::LONGEST];
-    let answer = write_text(words, &mut text);
-    match answer {
-        Written::Bytes(count) => print_front(&text, wide(count)),
-        Written::Header => print_refused(1, 0),
-        Written::Limits => print_refused(2, 0),
-        Written::NoRoom => print_refused(17, 0),
+    match write_text(words, &mut text) {
+        Ok(count) => rt.write_all(front(&text, count)),
+        Err(refusal) => print_refused(rt, refusal.number(), 0),
     }
 }
 
-fn print_words(words: &[u32], count: usize) {
-    if count <= words.len() {
-        print_text(&words[..count]);
-    }
-}
-
-fn main() {
-    let mut words = [0u32; Longest::INPUT];
-    let found = read_words(&mut words);
-    match found {
-        Input::Words(count) => print_words(&words, count),
-        Input::NotWords => print_refused(1, 0),
+fn main(rt: HostRuntime) -> io::Result<()> {
+    let mut room = [0u32; INPUT_WORDS];
+    match read_words(&mut rt.reader(), &mut room) {
+        Some(words) => print_text(&rt, words),
+        None => print_refused(&rt, 1, 0),
     }
 }

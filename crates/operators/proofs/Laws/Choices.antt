@@ -1,8 +1,8 @@
 -- Rows chosen by number: all of them, those that pass one test more, those that pass the conjuncts so far.
-use mathlib.Core.Path.{◌≡◌, refl, sym, ap, ◌∙◌, subst}
+use mathlib.Core.Path.{◌≡◌, refl, sym, ap, ◌∙◌}
 use mathlib.Core.Bool.{Bool, true, false, cond, ◌&&◌, and-true, and_assoc}
 use mathlib.Core.List.{List, [], ◌∷◌, ◌++◌, map, append-nil}
-use Prim.Native.Nat.{ℕ, ◌+◌, ◌*◌, ◌<◌, ◌≤◌}
+use Prim.Native.Nat.{ℕ, ◌+◌, ◌-◌, ◌*◌, ◌<◌, ◌≤◌}
 use native.Mathlib.Omega.{arith}
 use native.Mathlib.Nat.{add-zero, mul-le-mul_right}
 use native.Mathlib.Numerals.{add-one}
@@ -10,34 +10,26 @@ use lib.IntN.{ℤ}
 use lib.ListN.{length, get_or, take, drop, set, length-set}
 use lib.Seq.{take-suc, take-suc-set, drop-set-lt, drop-drop, get_or-drop, get_or-take, length-take-le}
 use Rattle.algebra.specs.Lists.{keep, all, upto, Every}
-use Rattle.algebra.specs.Value.{Value, Row, Test, holds}
+use Rattle.algebra.specs.Value as values
+use Rattle.algebra.specs.Value.{Value, Row, holds}
 use Rattle.algebra.specs.Plan.{Conjunct}
 use Rattle.algebra.specs.Operators.{Outer, value_of, passes}
 use Rattle.algebra.proofs.Lists.Every.{every_of, every_map, every_keep, every_in}
 use Rattle.algebra.proofs.Lists.Keep.{keep_append, keep_all, keep_cong, keep_keep, map_append}
 use Rattle.plan.specs.Words.{item_word, three_at, item_at, items_from}
 use Rattle.plan.specs.Items.{between, term_of, term_right, test_of, conjunct_of, conjunct_right}
+use Rattle.plan.specs.Codes.{meant_test}
+use Rattle.plan.specs.declared.sorts.Test.{Test}
 use Rattle.plan.specs.Terms.{meant}
 use Rattle.plan.specs.declared.terms.Term.{Term}
 use Rattle.plan.proofs.Laws.Header.{both}
-use Rattle.plan.proofs.Laws.Formed.{between_low, between_high}
 use Rattle.operators.specs.declared.outer.Binding.{Binding}
 use Rattle.operators.specs.declared.operand.Operand.{Operand}
-use Rattle.store.specs.Cells.{value, row_in}
+use Rattle.store.specs.Cells.{value}
 use Rattle.operators.specs.Bindings.{Held, taken}
 use Rattle.operators.specs.Choice.{row_at, There, Below, conjuncts_from, meets, matches}
 use Rattle.store.proofs.Laws.Cells.{row_long}
 use Rattle.operators.proofs.Laws.Sorted.{item_passes}
-
--- ---- all of them
-
--- one number more
-pub number_more : (found : List ℕ) (i : ℕ) {j : ℕ} → take i found ≡ upto i → i < length found → j ≡ i → take (i + 1) (set found j i) ≡ upto (i + 1)
-number_more found i e h q = rw (q, add-one i) (take-suc-set found i i h ∙ ap (λ (l : List ℕ). l ++ (i ∷ [])) e)
-
--- the loop ended
-pub numbers_end : (found : List ℕ) (i count : ℕ) → take i found ≡ upto i → count ≤ i → i ≤ count → take count found ≡ upto count
-numbers_end found i count e g h = let q : i ≡ count = omega arith in rw q at e
 
 -- ---- the chosen rows are there
 
@@ -82,9 +74,6 @@ pub keep_next : (p : ℕ → Bool) (l : List ℕ) (i : ℕ) → i < length l
 keep_next p l i h = rw (add-one i, take-suc l i 0 h) (keep_append p (take i l) (get_or l i 0 ∷ []))
 
 module _ {p : ℕ → Bool} {n : ℕ} {found₀ : List ℕ} where
-  pub narrowed_start : Narrowed p n found₀ found₀ 0 0
-  narrowed_start = record { inside = omega arith; behind = omega arith; long = refl; rest = refl; chosen = refl }
-
   module _ {found : List ℕ} {kept i : ℕ} (s : Narrowed p n found₀ found kept i) where
     -- the number at i has not been written over
     pub narrowed_at : get_or found i 0 ≡ get_or found₀ i 0
@@ -120,24 +109,21 @@ module _ {p : ℕ → Bool} {n : ℕ} {found₀ : List ℕ} where
             chosen = rw (keep_next p found₀ i (omega arith), ← r, e, append-nil) s.chosen;
           }
 
-    -- all were looked at
-    pub narrowed_end : n ≤ i → (take kept found ≡ keep p (take n found₀)) × (kept ≤ n)
-    narrowed_end g =
-        let b : kept ≤ i = s.behind in
-        let d : i ≤ n = s.inside in
-        let q : i ≡ n = omega arith in
-        (rw q at s.chosen, omega arith)
-
 -- row j, which the code read at place i, is there
 pub narrowed_there : (s : List ℤ) (w : ℕ) {p : ℕ → Bool} {n : ℕ} {found₀ found : List ℕ} {kept i : ℕ} → Narrowed p n found₀ found kept i
     → There s w (take n found₀) → i < n → n ≤ length found₀ → {j : ℕ} → j ≡ get_or found i 0 → j * w + w ≤ length s
 narrowed_there s w {n = n} {found₀ = found₀} {i = i} m t h g q = chosen_inside s w found₀ n i t g h (q ∙ narrowed_at m)
 
--- what the code made of row k
-module _ (test : ℕ) (first second : Operand) (s : List ℤ) (w k : ℕ) where
-  pub met : {j : ℕ} {a b x y : ℤ} {r : Bool} → r ≡ holds (test_of test) (value x) (value y) → x ≡ a → y ≡ b
-      → value a ≡ taken first (row_in s (j * w) w) → value b ≡ taken second (row_in s (j * w) w) → j ≡ k → r ≡ meets test first second s w k
-  met e p q f g h = rw (← h, ← f, ← g, ← p, ← q) e
+-- what the code made of row k, which it read as a part
+module _ (test : Test) (first second : Operand) (s : List ℤ) (w k : ℕ) where
+  pub met : {a b x y : ℤ} {r : Bool} → r ≡ holds (meant_test test) (value x) (value y) → x ≡ a → y ≡ b
+      → value a ≡ taken first (map value (take (k * w + w - k * w) (drop (k * w) s)))
+      → value b ≡ taken second (map value (take (k * w + w - k * w) (drop (k * w) s))) → r ≡ meets test first second s w k
+  met e p q f g =
+      let l : k * w + w - k * w ≡ w = omega arith in
+      let f' = rw l at f in
+      let g' = rw l at g in
+      rw (← f', ← g', ← p, ← q) e
 
 -- ---- the rows that pass the conjuncts so far
 
@@ -147,10 +133,8 @@ pub record Found (ws layout sizes : List ℕ) (cells scratch : List ℤ) (b : Bi
       → take n found ≡ keep (matches o (conjuncts_from ws j i) (map value left) rows width) is
   pub below : Below count (take n found)
 
--- a right conjunct
+-- the terms of a right conjunct
 pub record Right (ws : List ℕ) (j : ℕ) : Type 0 where
-  pub low : 1 ≤ item_word ws j 0
-  pub high : item_word ws j 0 ≤ 7
   pub first : term_right (three_at ws j 1) ≡ true
   pub second : term_right (three_at ws j 4) ≡ true
 
@@ -159,7 +143,7 @@ right_at ws j count i e h =
     let x = item_at ws (j + i) in
     let t = both (between 1 7 x.tag) (term_right x.first && term_right x.second) (item_passes conjunct_right ws j i count e h) in
     let f = both (term_right x.first) (term_right x.second) t.1 in
-    record { low = between_low 1 7 x.tag t.0; high = between_high 1 7 x.tag t.0; first = f.0; second = f.1 }
+    record { first = f.0; second = f.1 }
 
 -- one conjunct more
 passes_more : (o : Outer) (cs : List Conjunct) (c : Conjunct) (r : Row)
@@ -175,7 +159,7 @@ conjuncts_more ws j i =
     (ap (map conjunct_of) (map_append (λ k. item_at ws (j + k)) (upto i) (i ∷ [])) ∙ map_append conjunct_of (items_from ws j i) (item_at ws (j + i) ∷ []))
 
 -- equal terms of a test
-holds_same : {s t : Test} {a b c d : Value} → s ≡ t → a ≡ b → c ≡ d → holds s a c ≡ holds t b d
+holds_same : {s t : values.Test} {a b c d : Value} → s ≡ t → a ≡ b → c ≡ d → holds s a c ≡ holds t b d
 holds_same p q r = rw (p, q, r)
 
 module _ {ws layout sizes : List ℕ} {cells scratch : List ℤ} {b : Binding} {j : ℕ} {left rows : List ℤ} {width count : ℕ} {is : List ℕ} where
@@ -191,7 +175,7 @@ module _ {ws layout sizes : List ℕ} {cells scratch : List ℤ} {b : Binding} {
       found_there = below_there rows width room s.below
 
       -- one conjunct more, whose tag and terms the code read
-      pub found_more : {test m : ℕ} (first second : Operand) (t u : Term) {after : List ℕ} → test ≡ item_word ws (j + i) 0
+      pub found_more : (test : Test) {m : ℕ} (first second : Operand) (t u : Term) {after : List ℕ} → meant_test test ≡ test_of (item_word ws (j + i) 0)
           → meant t ≡ term_of (three_at ws (j + i) 1) → meant u ≡ term_of (three_at ws (j + i) 4)
           →
           ((o : Outer) → Held ws layout sizes cells scratch b o → (row : Row) → length row ≡ width → taken first row ≡ value_of o (map value left ++ row) (meant t))
@@ -199,7 +183,7 @@ module _ {ws layout sizes : List ℕ} {cells scratch : List ℤ} {b : Binding} {
           ((o : Outer) → Held ws layout sizes cells scratch b o → (row : Row) → length row ≡ width → taken second row ≡ value_of o (map value left ++ row) (meant u))
           → (take m after ≡ keep (meets test first second rows width) (take n found)) × (m ≤ n)
           → Found ws layout sizes cells scratch b j left rows width count is after m (i + 1)
-      found_more {test} {m} first second t u {after} e f g p q r = record {
+      found_more test {m} first second t u {after} e f g p q r = record {
         chosen = λ o held. r.0 ∙ ap (keep (meets test first second rows width)) (s.chosen o held)
             ∙ keep_keep (meets test first second rows width) (matches o (conjuncts_from ws j i) (map value left) rows width) is
             ∙ keep_cong _ _ (every_map (λ k (h : k < count). step o held k h) all_below);
@@ -215,10 +199,6 @@ module _ {ws layout sizes : List ℕ} {cells scratch : List ℤ} {b : Binding} {
               let l : length row ≡ width = row_long rows (k * width) width (omega (arith, mul-le-mul_right width h)) in
               let a : taken first row ≡ value_of o (map value left ++ row) c.first = p o held row l ∙ ap (value_of o (map value left ++ row)) f in
               let d : taken second row ≡ value_of o (map value left ++ row) c.second = q o held row l ∙ ap (value_of o (map value left ++ row)) g in
-              ap (λ (x : Bool). (passes o (conjuncts_from ws j i) (map value left ++ row) && x)) (holds_same (ap test_of e) a d)
+              ap (λ (x : Bool). (passes o (conjuncts_from ws j i) (map value left ++ row) && x)) (holds_same e a d)
               ∙ sym
               (ap (λ (cs : List Conjunct). passes o cs (map value left ++ row)) (conjuncts_more ws j i) ∙ passes_more o (conjuncts_from ws j i) c (map value left ++ row))
-
-      -- all conjuncts passed
-      pub found_end : {k : ℕ} → k ≤ i → i ≤ k → Found ws layout sizes cells scratch b j left rows width count is found n k
-      found_end {k} g h = let q : i ≡ k = omega arith in subst (λ (x : ℕ). Found ws layout sizes cells scratch b j left rows width count is found n x) q s

@@ -7,6 +7,7 @@ use native.Mathlib.Omega.{arith}
 use lib.IntN.{ℤ}
 use lib.ListN.{length, length-append, length-map, take}
 use borrow.Author.Tests.{not-true}
+use Rattle.std.specs.Prelude.{Ok, Err}
 use Rattle.algebra.specs.Lists.{Every, all, done, keep, more, upto}
 use Rattle.algebra.specs.Value.{Row, same_row}
 use Rattle.algebra.specs.Plan as algebra
@@ -19,7 +20,7 @@ use Rattle.algebra.proofs.Lists.Every.{every_append, every_kept, every_map, ever
 use Rattle.algebra.proofs.Lists.Keep.{keep_cong, keep_keep, keep_map, keep_same, map_cong}
 use Rattle.algebra.proofs.Lists.Same.{same_eq, same_refl}
 use Rattle.plan.proofs.Laws.Loops.{all_append, keep_few}
-use Rattle.operators.specs.declared.made.Made.TheVariants.{OutOfRange, Rows}
+use Rattle.operators.specs.declared.fault.Fault.TheVariants.{OutOfRange}
 use Rattle.store.specs.Cells.{cell, cells_of, in_range, written}
 use Rattle.operators.specs.Choice.{Below}
 use Rattle.operators.specs.Made.{Makes}
@@ -146,13 +147,13 @@ module _ (ks : List ℕ) (gs : List algebra.Aggregate) (f : ℕ → Row) (count 
     grouped_all : left ≤ 0 → inv.rows ≡ groups_by ks gs (map f (upto count))
     grouped_all h = let q : left ≡ 0 = omega arith in sym (append-nil inv.rows) ∙ (rw q at inv.whole)
 
-    pub grouped_makes : (limit : ℕ) → left ≤ 0 → count ≤ limit → Makes limit (groups_by ks gs (map f (upto count))) to s₀ s (Rows groups)
+    pub grouped_makes : (limit : ℕ) → left ≤ 0 → count ≤ limit → Makes limit (groups_by ks gs (map f (upto count))) to s₀ s (Ok groups)
     grouped_makes limit h g =
         rw (← grouped_all h) (makes_rows limit inv.rows to s₀ s groups inv.many (omega (arith, inv.room)) inv.ranged inv.stands)
 
     -- a group is out of range
     pub grouped_fails : (limit : ℕ) (t : List ℤ) (g : Row) (rs : List Row) → groups_by ks gs (map f (take left rest)) ≡ g ∷ rs → all in_range g ≡ false
-        → count ≤ limit → Makes limit (groups_by ks gs (map f (upto count))) to s₀ t OutOfRange
+        → count ≤ limit → Makes limit (groups_by ks gs (map f (upto count))) to s₀ t (Err OutOfRange)
     grouped_fails limit t g rs e range h =
         let few : length (groups_by ks gs (map f (upto count))) ≤ count =
         omega (arith, groups_few ks gs (map f (upto count)), length-map (upto count) f, length_upto count) in

@@ -8,7 +8,7 @@ use native.Mathlib.Numerals.{add-one}
 use native.Mathlib.Omega.{arith}
 use lib.IntN.{ℤ}
 use lib.ListN.{drop, drop_of_length-le, get_or, length, length-set, set, take}
-use lib.Seq.{drop-cons, drop-set-lt, get_or-take, length-take-le, take-suc-set}
+use lib.Seq.{drop-cons, drop-set-lt, take-suc-set}
 use lib.Signed.{mag}
 use mir.Syntax.{w64}
 use mir.Val.{of_z}
@@ -28,48 +28,43 @@ value_same : (x y : ℤ) → value x ≡ value y → x ≡ y
 value_same x y e = sym (cell_value x) ∙ ap cell e ∙ cell_value y
 
 -- two rows agree from key column i on
-abbrev pub left_same : List ℕ → ℕ → Row → Row → ℕ → Bool
-left_same ps count a b i = same_row (picked (drop i (take count ps)) a) (picked (drop i (take count ps)) b)
+abbrev pub left_same : List ℕ → Row → Row → ℕ → Bool
+left_same ps a b i = same_row (picked (drop i ps) a) (picked (drop i ps) b)
 
 -- rows as parts of a slice
-pub part_width : (ps : List ℕ) (count : ℕ) (rows : List ℤ) (k i w : ℕ) (t : Bool)
-    → t ≡ left_same ps count (map value (take (k * w + w - k * w) (drop (k * w) rows))) (map value (take (i * w + w - i * w) (drop (i * w) rows))) 0
-    → t ≡ same_key rows w (take count ps) k i
-part_width ps count rows k i w t e =
+pub part_width : (ps : List ℕ) (rows : List ℤ) (k i w : ℕ) (t : Bool)
+    → t ≡ left_same ps (map value (take (k * w + w - k * w) (drop (k * w) rows))) (map value (take (i * w + w - i * w) (drop (i * w) rows))) 0
+    → t ≡ same_key rows w ps k i
+part_width ps rows k i w t e =
     let x : k * w + w - k * w ≡ w = omega arith in
     let y : i * w + w - i * w ≡ w = omega arith in
     rw (x, y) at e
 
 -- the columns before at agree: what is left decides
-module _ (ps : List ℕ) (count : ℕ) (a b : Row) (at : ℕ) (long : count ≤ length ps) where
-  column : at < count → drop at (take count ps) ≡ get_or ps at 0 ∷ drop (at + 1) (take count ps)
-  column h =
-      let size : length (take count ps) ≡ count = length-take-le count ps long in
-      rw (drop-cons (take count ps) at 0 (omega arith), get_or-take count ps at 0 h, add-one at)
+module _ (ps : List ℕ) (a b : Row) (at : ℕ) where
+  column : at < length ps → drop at ps ≡ get_or ps at 0 ∷ drop (at + 1) ps
+  column h = rw (drop-cons ps at 0 h, add-one at)
 
-  agree : at < count → get_or a (get_or ps at 0) null ≡ get_or b (get_or ps at 0) null → left_same ps count a b at ≡ left_same ps count a b (at + 1)
+  agree : at < length ps → get_or a (get_or ps at 0) null ≡ get_or b (get_or ps at 0) null → left_same ps a b at ≡ left_same ps a b (at + 1)
   agree h e = rw (column h, e, same_value_refl (get_or b (get_or ps at 0) null))
 
-  apart : at < count → (get_or a (get_or ps at 0) null ≡ get_or b (get_or ps at 0) null → ⊥) → false ≡ left_same ps count a b at
+  apart : at < length ps → (get_or a (get_or ps at 0) null ≡ get_or b (get_or ps at 0) null → ⊥) → false ≡ left_same ps a b at
   apart h f = rw (column h) (go (holds same (get_or a (get_or ps at 0) null) (get_or b (get_or ps at 0) null)) refl)
     where
       go : (t : Bool) → holds same (get_or a (get_or ps at 0) null) (get_or b (get_or ps at 0) null) ≡ t
-          → false ≡ (holds same (get_or a (get_or ps at 0) null) (get_or b (get_or ps at 0) null) && left_same ps count a b (at + 1))
+          → false ≡ (holds same (get_or a (get_or ps at 0) null) (get_or b (get_or ps at 0) null) && left_same ps a b (at + 1))
       go true e = absurd (f (same_value_eq _ _ e))
       go false e = rw e
 
   module _ (x y : ℤ) {p : ℕ} (is : p ≡ get_or ps at 0) (first : value x ≡ get_or a p null) (second : value y ≡ get_or b p null) where
-    pub key_next : mag x < 2 ^ 63 → mag y < 2 ^ 63 → of_z w64 x ≡ of_z w64 y → at < count → left_same ps count a b at ≡ left_same ps count a b (at + 1)
+    pub key_next : mag x < 2 ^ 63 → mag y < 2 ^ 63 → of_z w64 x ≡ of_z w64 y → at < length ps → left_same ps a b at ≡ left_same ps a b (at + 1)
     key_next h g e l = agree l (rw (← is) (sym first ∙ ap value (bits_same (record { sfits = h }) (record { sfits = g }) e) ∙ second))
 
-    pub key_stop : (of_z w64 x ≡ of_z w64 y → ⊥) → at < count → false ≡ left_same ps count a b at
+    pub key_stop : (of_z w64 x ≡ of_z w64 y → ⊥) → at < length ps → false ≡ left_same ps a b at
     key_stop f l = apart l (λ e. f (ap (of_z w64) (value_same x y (first ∙ (rw is e) ∙ sym second))))
 
-  pub key_end : count ≤ at → true ≡ left_same ps count a b at
-  key_end h =
-      let size : length (take count ps) ≡ count = length-take-le count ps long in
-      let none : drop at (take count ps) ≡ [] = drop_of_length-le (take count ps) {i = at} (omega arith) in
-      rw none
+  pub key_end : length ps ≤ at → true ≡ left_same ps a b at
+  key_end h = rw (drop_of_length-le ps {i = at} h)
 
 -- ---- numbers parted by a test
 

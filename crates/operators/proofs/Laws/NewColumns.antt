@@ -7,7 +7,7 @@ use native.Mathlib.Omega.{arith}
 use native.Mathlib.Nat.{mul-le-mul_right}
 use lib.IntN.{ℤ}
 use lib.ListN.{length, take, drop, set, length-map, length-append}
-use lib.Seq.{take_all}
+use Rattle.std.specs.Prelude.{Ok, Err}
 use Rattle.algebra.specs.Lists.{all, done, more}
 use Rattle.algebra.specs.Value.{Value, Row}
 use Rattle.algebra.specs.Statements.{Wide}
@@ -16,10 +16,11 @@ use Rattle.algebra.proofs.Lists.Keep.{map_append}
 use Rattle.plan.proofs.Laws.Loops.{all_of}
 use Rattle.plan.proofs.Laws.Numbered.{every_all}
 use Rattle.store.specs.declared.rows.Block.{Block}
-use Rattle.operators.specs.declared.made.Made.TheVariants.{Rows, OutOfRange}
+use Rattle.operators.specs.declared.fault.Fault.TheVariants.{OutOfRange}
+use Rattle.plan.specs.declared.sorts.Operation.{Operation}
 use Rattle.operators.specs.declared.operand.Operand.{Operand}
 use Rattle.operators.specs.declared.operand.Operand.TheVariants.{Column, Fixed}
-use Rattle.store.specs.Cells.{value, cell, in_range, row_in, rows_in, cells_of, written}
+use Rattle.store.specs.Cells.{value, cell, in_range, rows_in, cells_of, written}
 use Rattle.store.specs.Rows.{source, place_of, row_of, rows_of, Within, Before}
 use Rattle.operators.specs.Bindings.{taken, Light, combined}
 use Rattle.operators.specs.Made.{Makes}
@@ -34,14 +35,14 @@ taken_light : (x : Operand) (r : Row) → all in_range r ≡ true → Light x �
 taken_light (Column p) r h l = entry_ranged r p h
 taken_light (Fixed z) r h l = l
 
-abbrev pub added : ℕ → Operand → Operand → Row → Row
+abbrev pub added : Operation → Operand → Operand → Row → Row
 added t first second x = x ++ (combined t (taken first x) (taken second x) ∷ [])
 
 -- the first i rows of a block, each with its new column
-abbrev pub added_to : List ℤ → List ℤ → Block → ℕ → Operand → Operand → ℕ → List Row
+abbrev pub added_to : List ℤ → List ℤ → Block → Operation → Operand → Operand → ℕ → List Row
 added_to cells s b t first second i = map (added t first second) (rows_in (source cells s b) b.from b.width i)
 
-module _ (cells s : List ℤ) (b : Block) (t : ℕ) (first second : Operand) where
+module _ (cells s : List ℤ) (b : Block) (t : Operation) (first second : Operand) where
   added_next : (i : ℕ) → added_to cells s b t first second (i + 1) ≡ added_to cells s b t first second i ++ (added t first second (row_of cells s b i) ∷ [])
   added_next i =
       ap (map (added t first second)) (rows_next (source cells s b) b.from b.width i)
@@ -109,24 +110,18 @@ module _ (cells s : List ℤ) (b : Block) (t : ℕ) (first second : Operand) whe
         part_values : map value part ≡ row_of cells s b i
         part_values = ap (map value) read ∙ same_after
 
-        part_long : length part ≡ b.width
+        pub part_long : length part ≡ b.width
         part_long = sym (length-map part value) ∙ ap length part_values ∙ row_wide cells b s i inside here
 
-        pub read_fits : 0 + b.width ≤ length part
-        read_fits = omega (arith, part_long)
-
-        part_row : row_in part 0 b.width ≡ row_of cells s b i
-        part_row = ap (map value) (take_all b.width part (omega (arith, part_long))) ∙ part_values
-
-        pub operand_light : (x : Operand) {v : Value} → v ≡ taken x (row_in part 0 b.width) → all (all in_range) (rows_of cells s b) ≡ true → Light x
+        pub operand_light : (x : Operand) {v : Value} → v ≡ taken x (map value part) → all (all in_range) (rows_of cells s b) ≡ true → Light x
             → in_range v ≡ true
         operand_light x e h l =
-            rw (e, part_row) (taken_light x (row_of cells s b i) (one_of (source cells s b) b.from b.width b.count i (all in_range) h here) l)
+            rw (e, part_values) (taken_light x (row_of cells s b i) (one_of (source cells s b) b.from b.width b.count i (all in_range) h here) l)
 
         -- what stands behind it
-        pub new_cell : {y z v : Value} → y ≡ taken first (row_in part 0 b.width) → z ≡ taken second (row_in part 0 b.width) → v ≡ combined t y z
+        pub new_cell : {y z v : Value} → y ≡ taken first (map value part) → z ≡ taken second (map value part) → v ≡ combined t y z
             → v ≡ combined t (taken first (row_of cells s b i)) (taken second (row_of cells s b i))
-        new_cell p q e = e ∙ rw (p, q, part_row)
+        new_cell p q e = e ∙ rw (p, q, part_values)
 
       pub added_more : (x : ℤ) → value x ≡ combined t (taken first (row_of cells s b i)) (taken second (row_of cells s b i))
           → set u (to + i * (b.width + 1) + b.width) x ≡ written s to (cells_of (added_to cells s b t first second (i + 1)))
@@ -158,7 +153,7 @@ module _ (cells s : List ℤ) (b : Block) (t : ℕ) (first second : Operand) whe
         (more (rw known at l) done))) done)))
 
     pub added_out : (limit to : ℕ) (u : List ℤ) → b.count ≤ limit → in_range v ≡ false
-        → Makes limit (added_to cells s b t first second b.count) to s u OutOfRange
+        → Makes limit (added_to cells s b t first second b.count) to s u (Err OutOfRange)
     added_out limit to u h l =
         makes_out limit (added_to cells s b t first second b.count) to s u (rw (added_length b.count) h)
         (go (all (all in_range) (added_to cells s b t first second b.count)) refl)
@@ -179,7 +174,7 @@ module _ (cells s : List ℤ) (b : Block) (t : ℕ) (first second : Operand) whe
   pub added_end : (limit to i : ℕ) (u : List ℤ) → b.count ≤ limit → i ≤ b.count → b.count ≤ i
       → all (all in_range) (added_to cells s b t first second i) ≡ true
       → u ≡ written s to (cells_of (added_to cells s b t first second i)) → Makes limit (added_to cells s b t first second b.count) to s u
-      (Rows b.count)
+      (Ok b.count)
   added_end limit to i u h l g r e =
       let q : i ≡ b.count = omega arith in
       makes_rows limit (added_to cells s b t first second b.count) to s u b.count (added_length b.count) h (rw q at r) (rw q at e)

@@ -6,18 +6,22 @@ use Prim.Native.Nat.{ℕ, zero, suc, ◌+◌, ◌-◌, ◌*◌, ◌^◌, ◌<◌
 use native.Mathlib.Omega.{arith}
 use lib.IntN.{ℤ, pos, nat_abs, ◌+ℤ◌, +ℤ_comm}
 use lib.ListN.{length, get_or, take, drop, length-map, length-take, length-drop, drop_of_length-le, get_or-eq_default}
-use lib.Seq.{length-take-le, drop-cons, get_or-take}
+use lib.Seq.{drop-cons}
 use lib.Signed.{lt_z}
 use mir.Syntax.{w64}
 use mir.Val.{SFits, to_z, of_z}
 use mir.ValLaws.{to_z-of_z}
+use Rattle.std.specs.Int.{int_min, int_max}
+use Rattle.std.specs.Prelude.{Option, Some, None, unwrap_or}
 use Rattle.algebra.specs.Lists.{any, all, Every, done, more}
 use Rattle.algebra.specs.Value.{Value, null, num, Row}
 use Rattle.algebra.specs.Operators.{better, best, is_number, add_up, summed, column_of}
-use Rattle.algebra.proofs.Lists.Every.{every_head, every_tail, every_map, every_of, every_mapped}
+use Rattle.algebra.proofs.Lists.Every.{every_in, every_head, every_tail, every_map, every_of, every_mapped}
 use Rattle.algebra.proofs.Aggregates.{summed_none, summed_some, sum_of_nothing}
 use Rattle.plan.proofs.Laws.Numbered.{every_all}
 use Rattle.store.specs.Cells.{null_cell, value, in_range}
+use Rattle.operators.specs.declared.aggregate.Order.{Order}
+use Rattle.operators.specs.declared.aggregate.Order.TheVariants.{Least, Greatest}
 use Rattle.operators.specs.Choice.{There, Ranged, row_at, chosen, in_order}
 use Rattle.store.proofs.Laws.Cells.{every_drop}
 use Rattle.store.proofs.Laws.Bits.{bits_null, bits_number}
@@ -26,32 +30,30 @@ use Rattle.operators.proofs.Laws.Operands.{row_column}
 
 -- ---- the better of two cells
 
-module _ (a b : ℤ) (least : Bool) (fits-a : SFits w64 a) (fits-b : SFits w64 b) where
+module _ (a b : ℤ) (order : Order) (fits-a : SFits w64 a) (fits-b : SFits w64 b) where
   -- a null gives way
-  pub better_of_null : of_z w64 a ≡ 2 ^ 63 → value (to_z w64 (of_z w64 b)) ≡ better (in_order least) (value a) (value b)
+  pub better_of_null : of_z w64 a ≡ 2 ^ 63 → value (to_z w64 (of_z w64 b)) ≡ better (in_order order) (value a) (value b)
   better_of_null e = rw (bits_null fits-a e, to_z-of_z w64 b fits-b)
 
-  pub better_than_null : (of_z w64 a ≡ 2 ^ 63 → ⊥) → of_z w64 b ≡ 2 ^ 63 → value (to_z w64 (of_z w64 a)) ≡ better (in_order least) (value a) (value b)
+  pub better_than_null : (of_z w64 a ≡ 2 ^ 63 → ⊥) → of_z w64 b ≡ 2 ^ 63 → value (to_z w64 (of_z w64 a)) ≡ better (in_order order) (value a) (value b)
   better_than_null f e = rw (to_z-of_z w64 a fits-a, bits_null fits-b e, bits_number f)
 
-  module _ (f : of_z w64 a ≡ 2 ^ 63 → ⊥) (g : of_z w64 b ≡ 2 ^ 63 → ⊥) where
-    of_two : (t : Bool) → cond least (lt_z b a) (lt_z a b) ≡ t → value (cond t b a) ≡ better (in_order least) (value a) (value b)
-    of_two true e = rw (bits_number {a = a} f, bits_number {a = b} g, e)
-    of_two false e = rw (bits_number {a = b} g, bits_number {a = a} f, e)
+module _ (a b : ℤ) (f : of_z w64 a ≡ 2 ^ 63 → ⊥) (g : of_z w64 b ≡ 2 ^ 63 → ⊥) where
+  -- the least of two numbers
+  pub better_least : value (int_min a b) ≡ better (in_order Least) (value a) (value b)
+  better_least = go (lt_z b a) refl
+    where
+      go : (t : Bool) → lt_z b a ≡ t → value (cond t b a) ≡ better (in_order Least) (value a) (value b)
+      go true e = rw (bits_number {a = a} f, bits_number {a = b} g, e)
+      go false e = rw (bits_number {a = b} g, bits_number {a = a} f, e)
 
-    back_of : (t : Bool) → to_z w64 (of_z w64 (cond t b a)) ≡ cond t b a
-    back_of true = to_z-of_z w64 b fits-b
-    back_of false = to_z-of_z w64 a fits-a
-
-    -- the least of two numbers
-    pub better_least : (t : Bool) → least ≡ true → lt_z (to_z w64 (of_z w64 b)) (to_z w64 (of_z w64 a)) ≡ t
-        → value (to_z w64 (of_z w64 (cond t b a))) ≡ better (in_order least) (value a) (value b)
-    better_least t e h = let q : lt_z b a ≡ t = rw (to_z-of_z w64 b fits-b, to_z-of_z w64 a fits-a) at h in rw (back_of t) (of_two t (rw e q))
-
-    -- the greatest
-    pub better_greatest : (t : Bool) → least ≡ false → lt_z (to_z w64 (of_z w64 a)) (to_z w64 (of_z w64 b)) ≡ t
-        → value (to_z w64 (of_z w64 (cond t b a))) ≡ better (in_order least) (value a) (value b)
-    better_greatest t e h = let q : lt_z a b ≡ t = rw (to_z-of_z w64 a fits-a, to_z-of_z w64 b fits-b) at h in rw (back_of t) (of_two t (rw e q))
+  -- the greatest
+  pub better_greatest : value (int_max b a) ≡ better (in_order Greatest) (value a) (value b)
+  better_greatest = go (lt_z a b) refl
+    where
+      go : (t : Bool) → lt_z a b ≡ t → value (cond t b a) ≡ better (in_order Greatest) (value a) (value b)
+      go true e = rw (bits_number {a = a} f, bits_number {a = b} g, e)
+      go false e = rw (bits_number {a = b} g, bits_number {a = a} f, e)
 
 -- ---- a column of chosen rows
 
@@ -98,85 +100,81 @@ column_light p rs e = every_mapped (λ r. get_or r p null) (every_map (λ r h. e
 
 -- ---- one row more, from the last to the first
 
--- a total and whether there was a number: where the code stands in some values
-abbrev pub Running : ℕ → Bool → List Value → Type 0
-Running t some vs = (t ≡ of_z w64 (add_up vs)) × (some ≡ any is_number vs)
+-- the sum so far, or none of no numbers: where the code stands in some values
+abbrev pub Running : Option ℤ → List Value → Type 0
+Running s vs = s ≡ cond (any is_number vs) (Some (add_up vs)) None
 
-module _ (rows : List ℤ) (width p : ℕ) (found : List ℕ) (n : ℕ) (few : n ≤ length found) where
+sum_read : (vs : List Value) → unwrap_or (cond (any is_number vs) (Some (add_up vs)) None) (pos 0) ≡ add_up vs
+sum_read [] = refl
+sum_read (null ∷ vs) = sum_read vs
+sum_read (num z ∷ vs) = refl
+
+module _ (rows : List ℤ) (width p : ℕ) (is : List ℕ) where
   abbrev vs : List Value
-  vs = column_of p (chosen rows width (take n found))
+  vs = column_of p (chosen rows width is)
 
-  long : length vs ≡ n
-  long = column_length rows width p (take n found) ∙ length-take-le n found few
+  long : length vs ≡ length is
+  long = column_length rows width p is
 
   -- no rows yet
-  none : drop n vs ≡ []
-  none = drop_of_length-le vs {i = n} (omega (arith, long))
+  none : drop (length is) vs ≡ []
+  none = drop_of_length-le vs {i = length is} (omega (arith, long))
 
-  pub sum_none : Running 0 false (drop n vs)
-  sum_none = (rw none, rw none)
+  pub sum_none : Running None (drop (length is) vs)
+  sum_none = rw none
 
-  pub best_none : (before : Value → Value → Bool) → value null_cell ≡ best before (drop n vs)
+  pub best_none : (before : Value → Value → Bool) → value null_cell ≡ best before (drop (length is) vs)
   unfolding value
   best_none before = rw none
 
   -- the sum fits
-  module _ (most : n ≤ 4096) (ranged : Ranged rows width (take n found)) where
+  module _ (most : length is ≤ 4096) (ranged : Ranged rows width is) where
     sum_small : (j : ℕ) → nat_abs (add_up (drop j vs)) ≤ 2 ^ 59
-    sum_small j = omega (arith, sum_abs (drop j vs) (every_drop j (column_light p (chosen rows width (take n found)) ranged)), length-drop j vs, long)
+    sum_small j = omega (arith, sum_abs (drop j vs) (every_drop j (column_light p (chosen rows width is) ranged)), length-drop j vs, long)
 
     sum_fits : (j : ℕ) → SFits w64 (add_up (drop j vs))
     sum_fits j = fits_size (add_up (drop j vs)) (omega (arith, sum_small j))
 
-  module _ (i : ℕ) {k : ℕ} (there : There rows width (take n found)) (inside : p < width) (some : 0 < i) (below : i ≤ n) (read : k ≡ get_or found (i - 1) 0)
+  module _ (i : ℕ) {k : ℕ} (there : There rows width is) (inside : p < width) (some : 0 < i) (below : i ≤ length is) (read : k ≡ get_or is (i - 1) 0)
     where
       next : drop (i - 1) vs ≡ value (get_or rows (k * width + p) (pos 0)) ∷ drop i vs
       next =
           let q : suc (i - 1) ≡ i = omega arith in
-          let l : i - 1 < n = omega arith in
-          drop-cons vs (i - 1) null (omega (arith, long))
-          ∙ rw (q, column_entry rows width p there inside (i - 1) (omega (arith, length-take-le n found few)), get_or-take n found (i - 1) 0 l, ← read)
+          drop-cons vs (i - 1) null (omega (arith, long)) ∙ rw (q, column_entry rows width p there inside (i - 1) (omega arith), ← read)
 
       -- a null changes nothing
-      pub sum_null : (t : ℕ) (s : Bool) → SFits w64 (get_or rows (k * width + p) (pos 0)) → of_z w64 (get_or rows (k * width + p) (pos 0)) ≡ 2 ^ 63
-          → Running t s (drop i vs) → Running t s (drop (i - 1) vs)
-      sum_null t s h z e = rw (next, bits_null h z) e
+      pub sum_null : (s : Option ℤ) → SFits w64 (get_or rows (k * width + p) (pos 0)) → of_z w64 (get_or rows (k * width + p) (pos 0)) ≡ 2 ^ 63
+          → Running s (drop i vs) → Running s (drop (i - 1) vs)
+      sum_null s h z e = rw (next, bits_null h z) e
 
-      module _ (most : n ≤ 4096) (ranged : Ranged rows width (take n found)) (t : ℕ) (h : SFits w64 (get_or rows (k * width + p) (pos 0)))
-          (f : of_z w64 (get_or rows (k * width + p) (pos 0)) ≡ 2 ^ 63 → ⊥)
-          (e : t ≡ of_z w64 (add_up (drop i vs))) where
-        sum_step : to_z w64 t +ℤ to_z w64 (of_z w64 (get_or rows (k * width + p) (pos 0))) ≡ add_up (drop (i - 1) vs)
+      module _ (most : length is ≤ 4096) (ranged : Ranged rows width is)
+          (f : of_z w64 (get_or rows (k * width + p) (pos 0)) ≡ 2 ^ 63 → ⊥) {s : Option ℤ} (e : Running s (drop i vs)) where
+        sum_step : unwrap_or s (pos 0) +ℤ get_or rows (k * width + p) (pos 0) ≡ add_up (drop (i - 1) vs)
         sum_step =
             let z : ℤ = get_or rows (k * width + p) (pos 0) in
-            ap (λ (x : ℤ). x +ℤ to_z w64 (of_z w64 z)) (ap (to_z w64) e ∙ to_z-of_z w64 (add_up (drop i vs)) (sum_fits most ranged i))
-            ∙ ap (λ (x : ℤ). add_up (drop i vs) +ℤ x) (to_z-of_z w64 z h)
+            ap (λ (x : ℤ). x +ℤ z) (ap (λ (o : Option ℤ). unwrap_or o (pos 0)) e ∙ sum_read (drop i vs))
             ∙ +ℤ_comm (add_up (drop i vs)) z
             ∙ rw (next, bits_number f)
 
-        pub sum_add_fits : SFits w64 (to_z w64 t +ℤ to_z w64 (of_z w64 (get_or rows (k * width + p) (pos 0))))
+        pub sum_add_fits : SFits w64 (unwrap_or s (pos 0) +ℤ get_or rows (k * width + p) (pos 0))
         sum_add_fits = rw sum_step (sum_fits most ranged (i - 1))
 
-        pub sum_turn : Running (of_z w64 (to_z w64 t +ℤ to_z w64 (of_z w64 (get_or rows (k * width + p) (pos 0))))) true (drop (i - 1) vs)
-        sum_turn = (ap (of_z w64) sum_step, rw (next, bits_number f))
+        pub sum_turn : Running (Some (unwrap_or s (pos 0) +ℤ get_or rows (k * width + p) (pos 0))) (drop (i - 1) vs)
+        sum_turn = ap Some sum_step ∙ rw (next, bits_number f)
 
       pub best_turn : (before : Value → Value → Bool) (r z a : ℤ) → value r ≡ better before (value z) (value a) → z ≡ get_or rows (k * width + p) (pos 0)
           → value a ≡ best before (drop i vs) → value r ≡ best before (drop (i - 1) vs)
       best_turn before r z a e q h = e ∙ rw (next, q, h)
 
-  module _ (i : ℕ) (end : i ≤ 0) where
-    module _ (t : ℕ) (some : Bool) (e : Running t some (drop i vs)) where
-      whole : Running t some vs
-      whole = let q : i ≡ 0 = omega arith in rw q at e
+  pub sum_end : {s : Option ℤ} → Running s vs → length is ≤ 4096 → Ranged rows width is → value (unwrap_or s null_cell) ≡ summed vs
+  unfolding value
+  sum_end {s} e most ranged = rw e (go (any is_number vs) refl)
+    where
+      go : (t : Bool) → any is_number vs ≡ t → value (unwrap_or (cond t (Some (add_up vs)) None) null_cell) ≡ summed vs
+      go true h = small_number (add_up vs) (omega (arith, sum_small most ranged 0)) ∙ sym (summed_some vs h)
+      go false h = sym (summed_none vs h)
 
-      pub sum_end : some ≡ true → n ≤ 4096 → Ranged rows width (take n found) → value (to_z w64 t) ≡ summed vs
-      sum_end h most ranged =
-          rw (ap (to_z w64) whole.0 ∙ to_z-of_z w64 (add_up vs) (sum_fits most ranged 0))
-          (small_number (add_up vs) (omega (arith, sum_small most ranged 0)) ∙ sym (summed_some vs (sym whole.1 ∙ h)))
-
-      -- no number was met
-      pub sum_nothing : some ≡ false → value null_cell ≡ summed vs
-      unfolding value
-      sum_nothing h = sym (summed_none vs (sym whole.1 ∙ h))
-
-    pub best_end : {v : Value} (before : Value → Value → Bool) → v ≡ best before (drop i vs) → v ≡ best before vs
-    best_end before e = let q : i ≡ 0 = omega arith in rw q at e
+-- a column's cell, which the code reads, is there
+pub column_inside : (rows : List ℤ) (width p : ℕ) (is : List ℕ) (i : ℕ) → There rows width is → p < width → i < length is
+    → get_or is i 0 * width + p < length rows
+column_inside rows width p is i there inside l = omega (arith, every_in 0 there i l)

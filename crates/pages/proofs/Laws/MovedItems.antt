@@ -1,26 +1,22 @@
 -- Terms and items whose columns moved, as words.
 use mathlib.Core.Path.{◌≡◌, refl, sym, ap, subst, ◌∙◌}
 use mathlib.Core.Bool.{Bool, true, false, cond}
-use mathlib.Core.List.{List, [], ◌∷◌, ◌++◌, map}
-use Prim.Native.Nat.{ℕ, ◌+◌, ◌^◌, ◌≤◌, ◌<◌}
+use mathlib.Core.List.{List, [], ◌∷◌, ◌++◌}
+use Prim.Native.Nat.{ℕ, ◌^◌, ◌<◌}
 use native.Mathlib.Omega.{arith}
 use lib.IntN.{ℤ}
 use lib.Dec.{leb, eqb}
 use borrow.Author.Tests.{leb-true, eqb-true, ne_eqb}
 use Rattle.algebra.specs.Plan.{Term, column, outer, constant, nothing}
 use Rattle.algebra.specs.Domains as algebra
-use Rattle.algebra.specs.Lists.{upto}
-use Rattle.algebra.proofs.Lists.Keep.{map_map}
-use Rattle.plan.specs.Words.{Three, Item, item_at, items_from}
+use Rattle.plan.specs.Words.{Three, Item}
 use Rattle.plan.specs.Items.{signed, term_of, term_right}
 use Rattle.plan.specs.Encoding.{term_words}
 use Rattle.plan.proofs.Laws.Restored.{three_again}
 use Rattle.plan.proofs.Laws.Written.{three_of}
 use Rattle.pages.specs.declared.page.Three as code
-use Rattle.pages.specs.declared.page.Cursor.{Cursor}
-use Rattle.pages.specs.Pages.{Added}
 use Rattle.pages.specs.Items.{moved_words, Small, Near}
-use Rattle.pages.proofs.Laws.Writer.{added_same, ended, Local, words_of}
+use Rattle.pages.proofs.Laws.Writer.{Local, words_of}
 
 -- ---- a term
 
@@ -88,13 +84,3 @@ module _ (D : algebra.Domain) (f : ℕ → ℕ) (x : Item) (t : ℕ) (a b : code
   pub moved_both : (t ≡ 8 → ⊥) → three_words b ≡ term_words (algebra.move_term D f (term_of x.second)) → words_of t a b ≡ moved_words D f x
   unfolding moved_words
   moved_both q h = moved_first _ (rw (ne_eqb x.tag 8 (λ r. q (e ∙ r))) h)
-
--- the words of an item by another name
-pub added_item : {items items' : List ℕ} {c c' : Cursor} (w v : List ℕ) → w ≡ v → Added items items' c c' (w ∷ []) → Added items items' c c' (v ∷ [])
-added_item w v e = added_same (w ∷ []) (v ∷ []) (rw e)
-
--- what the loop has written at its end
-pub moved_end : {items₀ items : List ℕ} {c₀ c : Cursor} (D : algebra.Domain) (f : ℕ → ℕ) (ws : List ℕ) (a i n : ℕ)
-    → Added items₀ items c₀ c (map (λ k. moved_words D f (item_at ws (a + k))) (upto i)) → i ≤ n → n ≤ i
-    → Added items₀ items c₀ c (map (moved_words D f) (items_from ws a n))
-moved_end D f ws a i n = ended (λ k. moved_words D f (item_at ws (a + k))) i n _ (sym (map_map (moved_words D f) (λ k. item_at ws (a + k)) (upto n)))

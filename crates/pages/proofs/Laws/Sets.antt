@@ -1,41 +1,39 @@
--- Sets of positions as numbers: shifts of one, the count of what is below a position, and the list of a set's members.
+-- Sets of positions: shifts of one, the count of what is below a position, and the list of a set's members.
 use mathlib.Core.Path.{◌≡◌, refl, ap, sym, ◌∙◌}
 use mathlib.Core.Bool.{Bool, true, false, cond, ◌||◌}
 use mathlib.Core.List.{List, [], ◌∷◌, ◌++◌}
 use Prim.Native.Nat.{ℕ, zero, suc, ◌+◌, ◌-◌, ◌*◌, ◌/◌, ◌%◌, ◌^◌, ◌<◌, ◌≤◌, max, min}
 use native.Mathlib.Omega.{arith}
-use native.Mathlib.Nat.{one-mul, mod-lt, div-eq_of_lt, zero-div}
+use native.Mathlib.Nat.{one-mul, mod-lt, div-eq_of_lt}
 use native.Mathlib.Numerals.{one-add}
 use lib.Dec.{eqb, ltb}
 use lib.ListN.{length, length-append}
-use lib.Pow.{pow_pos, pow_mono, pow-lt, pow-add, shl_exact, shl-shr, mod-pow-add, ones_split, high, ones_lt}
+use lib.Pow.{pow_pos, pow_mono, pow-lt, pow-add, shl_exact, shl-shr, mod-pow-add}
 use lib.Bits.{bit_or, or_shr, or_step}
 use lib.Count.{ones, ones_in, ones_cat}
 use borrow.Author.Tests.{lt-ltb, le-ltb, ltb-true, ltb-false, eqb-true, eqb-false}
 use Rattle.algebra.specs.Lists.{keep, upto}
 use Rattle.algebra.specs.Domains.{below}
 use Rattle.algebra.proofs.Lists.Keep.{keep_append}
+use Rattle.pages.specs.declared.sets.ColumnSet.{ColumnSet}
 use Rattle.pages.specs.Sets.{bit_of, in_set, rank, members}
 
 -- 1 << p at 64 bits
 pub shifted : (p : ℕ) → p < 64 → (1 * 2 ^ p) % 2 ^ 64 ≡ 2 ^ p
 shifted p h = shl_exact 1 p 64 (omega arith) (omega arith) ∙ one-mul (2 ^ p)
 
-pub shifted_pos : (p : ℕ) → p < 64 → 0 < (1 * 2 ^ p) % 2 ^ 64
-shifted_pos p h = rw (shifted p h) (pow_pos p)
-
 -- ---- bits
 
-bit_lt : (s p : ℕ) → bit_of s p < 2
+bit_lt : (s : ColumnSet) (p : ℕ) → bit_of s p < 2
 bit_lt s p = omega arith
 
 -- nothing stands past 64
-bit_past : (s p : ℕ) → s < 2 ^ 64 → 64 ≤ p → bit_of s p ≡ 0
+bit_past : (s : ColumnSet) (p : ℕ) → s.bits < 2 ^ 64 → 64 ≤ p → bit_of s p ≡ 0
 bit_past s p f h =
     let g : 2 ^ 64 ≤ 2 ^ p = pow_mono h in
-    let e : s / 2 ^ p ≡ 0 = div-eq_of_lt (omega arith) in rw e
+    let e : s.bits / 2 ^ p ≡ 0 = div-eq_of_lt (omega arith) in rw e
 
-pub out_past : (s p : ℕ) → s < 2 ^ 64 → 64 ≤ p → false ≡ in_set s p
+pub out_past : (s : ColumnSet) (p : ℕ) → s.bits < 2 ^ 64 → 64 ≤ p → false ≡ in_set s p
 out_past s p f h = rw (bit_past s p f h)
 
 ones_bit : (b : ℕ) → b < 2 → ones b ≡ b
@@ -47,26 +45,26 @@ ones_bit (suc (suc b)) h = absurd (omega arith)
 -- ---- the count
 
 -- the ones of what stands below p are the positions below p
-pub ones_rank : (s p : ℕ) → ones (s % 2 ^ p) ≡ rank s p
+pub ones_rank : (s : ColumnSet) (p : ℕ) → ones (s.bits % 2 ^ p) ≡ rank s p
 unfolding rank ones ones_in
-ones_rank s zero = let e : s % 1 ≡ 0 = omega arith in rw e
+ones_rank s zero = let e : s.bits % 1 ≡ 0 = omega arith in rw e
 ones_rank s (suc p) =
-    let e : s % 2 ^ (1 + p) ≡ (s / 2 ^ p % 2 ^ 1) * 2 ^ p + s % 2 ^ p = mod-pow-add s 1 p in
-    let f : s % 2 ^ suc p ≡ bit_of s p * 2 ^ p + s % 2 ^ p = rw one-add at e in
-    let g : ones (bit_of s p * 2 ^ p + s % 2 ^ p) ≡ ones (bit_of s p) + ones (s % 2 ^ p) = ones_cat p (bit_of s p) (s % 2 ^ p) (mod-lt s (pow_pos p)) in
+    let e : s.bits % 2 ^ (1 + p) ≡ (s.bits / 2 ^ p % 2 ^ 1) * 2 ^ p + s.bits % 2 ^ p = mod-pow-add s.bits 1 p in
+    let f : s.bits % 2 ^ suc p ≡ bit_of s p * 2 ^ p + s.bits % 2 ^ p = rw one-add at e in
+    let g : ones (bit_of s p * 2 ^ p + s.bits % 2 ^ p) ≡ ones (bit_of s p) + ones (s.bits % 2 ^ p) = ones_cat p (bit_of s p) (s.bits % 2 ^ p) (mod-lt s.bits (pow_pos p)) in
     rw f (g ∙ omega (arith, ones_bit (bit_of s p) (bit_lt s p), ones_rank s p))
 
-pub rank_le : (s p : ℕ) → rank s p ≤ p
+pub rank_le : (s : ColumnSet) (p : ℕ) → rank s p ≤ p
 unfolding rank
 rank_le s zero = omega arith
 rank_le s (suc p) = omega (arith, rank_le s p, bit_lt s p)
 
-pub rank_step : (s q : ℕ) → rank s (suc q) ≡ rank s q + bit_of s q
+pub rank_step : (s : ColumnSet) (q : ℕ) → rank s (suc q) ≡ rank s q + bit_of s q
 unfolding rank
 rank_step s q = refl
 
 -- past 64 the count is that of all
-pub rank_past : (s q : ℕ) → s < 2 ^ 64 → 64 ≤ q → rank s q ≡ rank s 64
+pub rank_past : (s : ColumnSet) (q : ℕ) → s.bits < 2 ^ 64 → 64 ≤ q → rank s q ≡ rank s 64
 rank_past s zero f h = absurd (omega arith)
 rank_past s (suc q) f h = go (ltb q 64) refl (rank_past s q f)
   where
@@ -74,7 +72,7 @@ rank_past s (suc q) f h = go (ltb q 64) refl (rank_past s q f)
     go true t before = let e : suc q ≡ 64 = omega (arith, ltb-true q 64 t) in ap (rank s) e
     go false t before = let g = ltb-false q 64 t in omega (arith, rank_step s q, before g, bit_past s q f g)
 
-pub rank_few : (s q : ℕ) → s < 2 ^ 64 → rank s q ≤ 64
+pub rank_few : (s : ColumnSet) (q : ℕ) → s.bits < 2 ^ 64 → rank s q ≤ 64
 rank_few s q f = go (ltb q 64) refl
   where
     go : (b : Bool) → ltb q 64 ≡ b → rank s q ≤ 64
@@ -82,43 +80,21 @@ rank_few s q f = go (ltb q 64) refl
     go false t = omega (arith, rank_le s 64, rank_past s q f (ltb-false q 64 t))
 
 -- what the code counts: all ones
-pub ones_all : (s q : ℕ) → s < 2 ^ 64 → 64 ≤ q → ones s ≡ rank s q
-ones_all s q f h = let e : s % 2 ^ 64 ≡ s = omega arith in ap ones (sym e) ∙ ones_rank s 64 ∙ sym (rank_past s q f h)
-
--- nothing stands in the empty set
-pub rank_none : (q : ℕ) → rank 0 q ≡ 0
-unfolding rank
-rank_none zero = refl
-rank_none (suc q) = rw (rank_none q, zero-div (2 ^ q))
-
--- every position stands in the full set
-full_bit : (p : ℕ) → p < 64 → bit_of 18446744073709551615 p ≡ 1
-full_bit p h = go (63 - p) (omega arith)
-  where
-    go : (k : ℕ) → k + p ≡ 63 → bit_of 18446744073709551615 p ≡ 1
-    go k e =
-        let f : suc k + p ≡ 64 = omega arith in
-        let g : 18446744073709551615 ≡ (2 ^ suc k - 1) * 2 ^ p + (2 ^ p - 1) = ap (λ (n : ℕ). 2 ^ n - 1) (sym f) ∙ ones_split (suc k) p in
-        let i : 18446744073709551615 / 2 ^ p ≡ 2 ^ suc k - 1 = ap (λ (n : ℕ). n / 2 ^ p) g ∙ high (2 ^ suc k - 1) p (ones_lt p) in
-        rw i (omega (arith, pow_pos k))
-
-pub rank_full : (q : ℕ) → q ≤ 64 → rank 18446744073709551615 q ≡ q
-unfolding rank
-rank_full zero h = refl
-rank_full (suc q) h = omega (arith, rank_full q (omega arith), full_bit q h)
+pub ones_all : (s : ColumnSet) (q : ℕ) → s.bits < 2 ^ 64 → 64 ≤ q → ones s.bits ≡ rank s q
+ones_all s q f h = let e : s.bits % 2 ^ 64 ≡ s.bits = omega arith in ap ones (sym e) ∙ ones_rank s 64 ∙ sym (rank_past s q f h)
 
 -- ---- the list of a set's members
 
-count_step : (s n : ℕ) (b : Bool) → in_set s n ≡ b → length (cond b (n ∷ []) []) ≡ bit_of s n
+count_step : (s : ColumnSet) (n : ℕ) (b : Bool) → in_set s n ≡ b → length (cond b (n ∷ []) []) ≡ bit_of s n
 count_step s n true e = sym (eqb-true (bit_of s n) 1 e)
 count_step s n false e = let f = eqb-false (bit_of s n) 1 e in omega (arith, bit_lt s n)
 
-count : (s n : ℕ) → length (keep (in_set s) (upto n)) ≡ rank s n
+count : (s : ColumnSet) (n : ℕ) → length (keep (in_set s) (upto n)) ≡ rank s n
 unfolding rank
 count s zero = refl
 count s (suc n) = rw (keep_append (in_set s) (upto n) (n ∷ []), length-append) (omega (arith, count s n, count_step s n (in_set s n) refl))
 
-pub length_members : (s : ℕ) → length (members s) ≡ rank s 64
+pub length_members : (s : ColumnSet) → length (members s) ≡ rank s 64
 length_members s = count s 64
 
 below_append : (xs ys : List ℕ) (q : ℕ) → below (xs ++ ys) q ≡ below xs q + below ys q
@@ -133,7 +109,7 @@ below_none : (q n : ℕ) (b : Bool) → q ≤ n → below (cond b (n ∷ []) [])
 below_none q n true h = rw (le-ltb n q h)
 below_none q n false h = refl
 
-count_below : (s q n : ℕ) → below (keep (in_set s) (upto n)) q ≡ rank s (min q n)
+count_below : (s : ColumnSet) (q n : ℕ) → below (keep (in_set s) (upto n)) q ≡ rank s (min q n)
 unfolding rank
 count_below s q zero = let e : min q 0 ≡ 0 = omega arith in rw e
 count_below s q (suc n) =
@@ -154,7 +130,7 @@ count_below s q (suc n) =
         rw (e, f, g, below_none q n (in_set s n) h) (omega arith)
 
 -- a member's place in the list is the count of what is below it
-pub below_members : (s q : ℕ) → s < 2 ^ 64 → below (members s) q ≡ rank s q
+pub below_members : (s : ColumnSet) (q : ℕ) → s.bits < 2 ^ 64 → below (members s) q ≡ rank s q
 below_members s q f = count_below s q 64 ∙ go (ltb q 64) refl
   where
     go : (b : Bool) → ltb q 64 ≡ b → rank s (min q 64) ≡ rank s q
@@ -165,18 +141,21 @@ below_members s q f = count_below s q 64 ∙ go (ltb q 64) refl
 
 -- ---- one position more
 
-bit_or_lem : (a b q : ℕ) → bit_of (bit_or a b) q ≡ max (bit_of a q) (bit_of b q)
+abbrev bit : ℕ → ℕ → ℕ
+bit a q = (a / 2 ^ q) % 2
+
+bit_or_lem : (a b q : ℕ) → bit (bit_or a b) q ≡ max (bit a q) (bit b q)
 bit_or_lem a b q =
     let e : bit_or a b / 2 ^ q ≡ bit_or (a / 2 ^ q) (b / 2 ^ q) = or_shr a b q in
     rw e (omega (arith, or_step (a / 2 ^ q) (b / 2 ^ q)))
 
-bit_one : (p q : ℕ) (b : Bool) → eqb p q ≡ b → bit_of (2 ^ p) q ≡ cond b 1 0
+bit_one : (p q : ℕ) (b : Bool) → eqb p q ≡ b → bit (2 ^ p) q ≡ cond b 1 0
 bit_one p q true e =
     let f : 2 ^ q / 2 ^ q ≡ 1 = rw one-mul at (shl-shr 1 q) in
     rw (eqb-true p q e, f)
 bit_one p q false e = go (ltb p q) refl
   where
-    go : (b : Bool) → ltb p q ≡ b → bit_of (2 ^ p) q ≡ 0
+    go : (b : Bool) → ltb p q ≡ b → bit (2 ^ p) q ≡ 0
     go true t = let f : 2 ^ p / 2 ^ q ≡ 0 = div-eq_of_lt (pow-lt (ltb-true p q t)) in rw f
     go false t =
         let h = ltb-false p q t in
@@ -186,9 +165,8 @@ bit_one p q false e = go (ltb p q) refl
         ap (λ (m : ℕ). 2 ^ m / 2 ^ q) (sym f) ∙ rw (pow-add 2 (suc (p - suc q)) q) (shl-shr (2 ^ suc (p - suc q)) q) in
         rw g (omega arith)
 
--- a position is in a union where it is in either
-pub in_or : (a b q : ℕ) → in_set (bit_or a b) q ≡ (in_set a q || in_set b q)
-in_or a b q = rw (bit_or_lem a b q) (go (bit_of a q) (bit_lt a q) (bit_of b q) (bit_lt b q))
+or_bits : (a b q : ℕ) → eqb (bit (bit_or a b) q) 1 ≡ (eqb (bit a q) 1 || eqb (bit b q) 1)
+or_bits a b q = rw (bit_or_lem a b q) (go (bit a q) (omega arith) (bit b q) (omega arith))
   where
     go : (x : ℕ) → x < 2 → (y : ℕ) → y < 2 → eqb (max x y) 1 ≡ (eqb x 1 || eqb y 1)
     go zero h zero g = refl
@@ -199,8 +177,12 @@ in_or a b q = rw (bit_or_lem a b q) (go (bit_of a q) (bit_lt a q) (bit_of b q) (
     go (suc zero) h (suc (suc y)) g = absurd (omega arith)
     go (suc (suc x)) h y g = absurd (omega arith)
 
-pub in_with : (s p q : ℕ) → in_set (bit_or s (2 ^ p)) q ≡ (in_set s q || eqb p q)
-in_with s p q = in_or s (2 ^ p) q ∙ rw (bit_one p q (eqb p q) refl) (go (eqb p q))
+-- a position is in a union where it is in either
+pub in_or : (a b c : ColumnSet) → c.bits ≡ bit_or a.bits b.bits → (q : ℕ) → in_set c q ≡ (in_set a q || in_set b q)
+in_or a b c e q = rw e (or_bits a.bits b.bits q)
+
+pub in_with : (s t : ColumnSet) (p : ℕ) → t.bits ≡ bit_or s.bits (2 ^ p) → (q : ℕ) → in_set t q ≡ (in_set s q || eqb p q)
+in_with s t p e q = rw e (or_bits s.bits (2 ^ p) q ∙ rw (bit_one p q (eqb p q) refl) (go (eqb p q)))
   where
     go : (b : Bool) → (in_set s q || eqb (cond b 1 0) 1) ≡ (in_set s q || b)
     go true = refl

@@ -1,69 +1,80 @@
 -- Items that loops write one after the other.
-use mathlib.Core.Path.{◌≡◌, refl, sym, ◌∙◌}
+use mathlib.Core.Path.{◌≡◌, refl, sym, ap, ◌∙◌}
 use mathlib.Core.Bool.{Bool, true, false, cond}
 use mathlib.Core.List.{List, [], ◌∷◌, ◌++◌, map, append-nil}
-use Prim.Native.Nat.{ℕ, ◌+◌, ◌^◌, ◌≤◌, ◌<◌}
+use Prim.Native.Nat.{ℕ, ◌+◌, ◌-◌, ◌^◌, ◌≤◌, ◌<◌}
 use native.Mathlib.Omega.{arith}
 use native.Mathlib.Numerals.{add-one}
-use borrow.Author.Tests.{eqb-true, eqb-false, ne_eqb}
+use borrow.Author.Tests.{eqb-true, ne_eqb}
 use lib.Dec.{eqb}
 use Rattle.algebra.specs.Lists.{keep, upto}
 use Rattle.algebra.specs.Domains.{below, match, span, shift}
 use Rattle.algebra.proofs.Lists.Keep.{keep_append, map_append, map_map, map_cong}
 use Rattle.algebra.proofs.Lists.Every.{every_of}
-use Rattle.plan.specs.Words.{item_word, item_at, items_from}
+use Rattle.plan.proofs.Laws.Numbered.{upto_add}
+use Rattle.plan.specs.Words.{Item, item_word, item_at, items_from}
 use Rattle.plan.specs.Encoding.{conjunct_words, position_words, unused}
-use Rattle.pages.specs.declared.page.Cursor.{Cursor}
+use Rattle.pages.specs.declared.page.Page.{Page}
 use Rattle.pages.specs.declared.page.Three.{Three}
-use Rattle.pages.specs.Sets.{bit_of, in_set, rank, members}
-use Rattle.pages.specs.Pages.{Added}
+use Rattle.pages.specs.declared.sets.ColumnSet.{ColumnSet}
+use Rattle.pages.specs.Sets.{in_set, rank, members}
 use Rattle.pages.specs.Items.{item_words, shifted_words}
-use Rattle.pages.proofs.Laws.Pages.{added_then}
+use Rattle.pages.specs.Pages.{Wrote, Missed}
+use Rattle.pages.proofs.Laws.Pages.{wrote_then, missed_then, missed_more, wrote_as, missed_as}
 use Rattle.pages.proofs.Laws.Sets.{below_members}
-
--- ---- items behind items
-
--- the same items by another name
-pub added_same : {items items' : List ℕ} {c c' : Cursor} (new other : List (List ℕ)) → new ≡ other → Added items items' c c' new → Added items items' c c' other
-added_same new other e f widths nodes rows out xs page = rw e at (f widths nodes rows out xs page)
 
 -- ---- a loop that writes an item for each of 0, 1, ..
 
-module _ {items₀ : List ℕ} {c₀ : Cursor} (f : ℕ → List ℕ) where
+-- the first of them, then others
+numbers_split : (i n : ℕ) → i ≤ n → upto n ≡ upto i ++ map (λ k. i + k) (upto (n - i))
+numbers_split i n g = let q : n ≡ i + (n - i) = omega arith in ap upto q ∙ upto_add i (n - i)
+
+module _ (f : ℕ → List ℕ) {p₀ p : Page} (i : ℕ) (before : Wrote p₀ p (map f (upto i))) where
   -- one item more
-  pub step : {items items' : List ℕ} {c c' : Cursor} (i : ℕ) (w : List ℕ) → w ≡ f i → Added items₀ items c₀ c (map f (upto i))
-      → Added items items' c c' (w ∷ [])
-      → Added items₀ items' c₀ c' (map f (upto (i + 1)))
-  step i w e before last =
-      added_same (map f (upto i) ++ (w ∷ [])) (map f (upto (i + 1))) (rw (add-one i, map_append f (upto i) (i ∷ []), e))
-      (added_then (map f (upto i)) (w ∷ []) before last)
+  module _ (w : List ℕ) (e : w ≡ f i) where
+    with_one : map f (upto i) ++ (w ∷ []) ≡ map f (upto (i + 1))
+    with_one = rw (add-one i, map_append f (upto i) (i ∷ []), e)
+
+    pub step : {q : Page} → Wrote p q (w ∷ []) → Wrote p₀ q (map f (upto (i + 1)))
+    step last = wrote_as with_one (wrote_then (map f (upto i)) (w ∷ []) before last)
+
+    -- it is too much
+    pub stop : (n : ℕ) {new : List (List ℕ)} → i < n → map f (upto n) ≡ new → Missed p (w ∷ []) → Missed p₀ new
+    stop n g t last =
+        let others = map (λ (k : ℕ). i + 1 + k) (upto (n - (i + 1))) in
+        missed_as
+        (sym (map_append f (upto (i + 1)) others) ∙ ap (map f) (sym (numbers_split (i + 1) n (omega arith))) ∙ t)
+        (missed_more (map f (upto (i + 1))) (map f others) (missed_as with_one (missed_then (map f (upto i)) (w ∷ []) before last)))
 
   -- all items written
-  pub ended : {items : List ℕ} {c : Cursor} (i n : ℕ) (new : List (List ℕ)) → map f (upto n) ≡ new → Added items₀ items c₀ c (map f (upto i)) → i ≤ n → n ≤ i
-      → Added items₀ items c₀ c new
-  ended i n new e before g h = let q : i ≡ n = omega arith in added_same (map f (upto i)) new (rw q e) before
+  pub ended : (n : ℕ) {new : List (List ℕ)} → map f (upto n) ≡ new → i ≤ n → n ≤ i → Wrote p₀ p new
+  ended n e g h = let q : i ≡ n = omega arith in wrote_as (rw q e) before
 
-  pub ended_kept : (p : ℕ → Bool) {items : List ℕ} {c : Cursor} (i n : ℕ) (new : List (List ℕ)) → map f (keep p (upto n)) ≡ new
-      → Added items₀ items c₀ c (map f (keep p (upto i)))
-      → i ≤ n → n ≤ i → Added items₀ items c₀ c new
-  ended_kept p i n new e before g h = let q : i ≡ n = omega arith in added_same (map f (keep p (upto i))) new (rw q e) before
+-- the numbers that pass a test only
+module _ (f : ℕ → List ℕ) (passes : ℕ → Bool) {p₀ p : Page} (i : ℕ) (before : Wrote p₀ p (map f (keep passes (upto i)))) where
+  module _ (t : Bool) (told : t ≡ passes i) where
+    module _ (is : t ≡ true) (w : List ℕ) (same : w ≡ f i) where
+      with_kept : map f (keep passes (upto i)) ++ (w ∷ []) ≡ map f (keep passes (upto (i + 1)))
+      with_kept = rw (add-one i, keep_append passes (upto i) (i ∷ []), ← told, is, map_append f (keep passes (upto i)) (i ∷ []), same)
 
-  -- the numbers that pass a test only; the code's variables behind the branch are items and c
-  module _ (p : ℕ → Bool) {items before : List ℕ} {c d : Cursor} (i : ℕ) (t : Bool) (told : t ≡ p i)
-      (rest : Added items₀ before c₀ d (map f (keep p (upto i)))) where
-    pub step_kept : {last : List ℕ} {e : Cursor} (w : List ℕ) → t ≡ true → w ≡ f i → items ≡ last → c ≡ e → Added before last d e (w ∷ [])
-        → Added items₀ items c₀ c (map f (keep p (upto (i + 1))))
-    step_kept w is same q r more =
-        rw (q, r)
-        (added_same (map f (keep p (upto i)) ++ (w ∷ [])) (map f (keep p (upto (i + 1))))
-        (rw (add-one i, keep_append p (upto i) (i ∷ []), ← told, is, map_append f (keep p (upto i)) (i ∷ []), same))
-        (added_then (map f (keep p (upto i))) (w ∷ []) rest more))
+      pub step_kept : {q r : Page} → r ≡ q → Wrote p q (w ∷ []) → Wrote p₀ r (map f (keep passes (upto (i + 1))))
+      step_kept q last = rw q (wrote_as with_kept (wrote_then (map f (keep passes (upto i))) (w ∷ []) before last))
 
-    pub step_left : t ≡ false → items ≡ before → c ≡ d → Added items₀ items c₀ c (map f (keep p (upto (i + 1))))
-    step_left is q r =
-        rw (q, r)
-        (added_same (map f (keep p (upto i))) (map f (keep p (upto (i + 1))))
-        (rw (add-one i, keep_append p (upto i) (i ∷ []), ← told, is, append-nil (keep p (upto i)))) rest)
+      pub stop_kept : (n : ℕ) {new : List (List ℕ)} → i < n → map f (keep passes (upto n)) ≡ new → Missed p (w ∷ []) → Missed p₀ new
+      stop_kept n g s last =
+          let others = map (λ (k : ℕ). i + 1 + k) (upto (n - (i + 1))) in
+          missed_as
+          (sym (map_append f (keep passes (upto (i + 1))) (keep passes others))
+          ∙ ap (map f) (sym (keep_append passes (upto (i + 1)) others) ∙ ap (keep passes) (sym (numbers_split (i + 1) n (omega arith)))) ∙ s)
+          (missed_more (map f (keep passes (upto (i + 1)))) (map f (keep passes others))
+          (missed_as with_kept (missed_then (map f (keep passes (upto i))) (w ∷ []) before last)))
+
+    pub step_left : t ≡ false → {q : Page} → q ≡ p → Wrote p₀ q (map f (keep passes (upto (i + 1))))
+    step_left is same =
+        rw same (wrote_as (rw (add-one i, keep_append passes (upto i) (i ∷ []), ← told, is, append-nil (keep passes (upto i)))) before)
+
+  pub ended_kept : (n : ℕ) {new : List (List ℕ)} → map f (keep passes (upto n)) ≡ new → i ≤ n → n ≤ i → Wrote p₀ p new
+  ended_kept n e g h = let q : i ≡ n = omega arith in wrote_as (rw q e) before
 
 -- ---- items of two local columns
 
@@ -121,43 +132,17 @@ module _ (ws : List ℕ) (j t d p : ℕ) (e : t ≡ item_word ws j 0) where
       go true q = rw (eqb-true t 13 q)
       go false q = refl
 
--- ---- what each loop has written at its end
+-- ---- what each loop writes in all
 
-module _ {items₀ items : List ℕ} {c₀ c : Cursor} where
-  pub matches_end : (n i d : ℕ) → Added items₀ items c₀ c (map (λ q. locals 7 q (n + q)) (upto i)) → i ≤ d → d ≤ i
-      → Added items₀ items c₀ c (map conjunct_words (match (λ q. q) (λ q. n + q) (upto d)))
-  matches_end n i d = ended (λ q. locals 7 q (n + q)) i d _ (match_words (λ q. q) (λ q. n + q) (upto d))
+pub matches_all : (n d : ℕ) → map (λ q. locals 7 q (n + q)) (upto d) ≡ map conjunct_words (match (λ q. q) (λ q. n + q) (upto d))
+matches_all n d = match_words (λ q. q) (λ q. n + q) (upto d)
 
-  pub columns_end : (tag a i n : ℕ) → Added items₀ items c₀ c (map (λ q. locals tag (a + q) 0) (upto i)) → i ≤ n → n ≤ i
-      → Added items₀ items c₀ c (map (position_words tag) (span a n))
-  columns_end tag a i n = ended (λ q. locals tag (a + q) 0) i n _ (sym (map_map (position_words tag) (shift a) (upto n)))
+pub columns_all : (tag a n : ℕ) → map (λ q. locals tag (a + q) 0) (upto n) ≡ map (position_words tag) (span a n)
+columns_all tag a n = sym (map_map (position_words tag) (shift a) (upto n))
 
-  pub copied_end : (ws : List ℕ) (a i n : ℕ) → Added items₀ items c₀ c (map (λ k. item_words (item_at ws (a + k))) (upto i)) → i ≤ n → n ≤ i
-      → Added items₀ items c₀ c (map item_words (items_from ws a n))
-  copied_end ws a i n = ended (λ k. item_words (item_at ws (a + k))) i n _ (sym (map_map item_words (λ k. item_at ws (a + k)) (upto n)))
+pub items_all : (g : Item → List ℕ) (ws : List ℕ) (a n : ℕ) → map (λ k. g (item_at ws (a + k))) (upto n) ≡ map g (items_from ws a n)
+items_all g ws a n = sym (map_map g (λ k. item_at ws (a + k)) (upto n))
 
-  pub shifted_end : (ws : List ℕ) (a d i n : ℕ) → Added items₀ items c₀ c (map (λ k. shifted_words d (item_at ws (a + k))) (upto i)) → i ≤ n → n ≤ i
-      → Added items₀ items c₀ c (map (shifted_words d) (items_from ws a n))
-  shifted_end ws a d i n = ended (λ k. shifted_words d (item_at ws (a + k))) i n _ (sym (map_map (shifted_words d) (λ k. item_at ws (a + k)) (upto n)))
-
-  pub keys_end : (set q : ℕ) → Added items₀ items c₀ c (map (λ k. locals 11 k 0) (keep (in_set set) (upto q))) → q ≤ 64 → 64 ≤ q
-      → Added items₀ items c₀ c (map (position_words 11) (members set))
-  keys_end set q = ended_kept (λ k. locals 11 k 0) (in_set set) q 64 _ refl
-
-  pub set_matches_end : (set n q : ℕ) → set < 2 ^ 64 → Added items₀ items c₀ c (map (λ k. locals 7 k (n + rank set k)) (keep (in_set set) (upto q)))
-      → q ≤ 64 → 64 ≤ q
-      → Added items₀ items c₀ c (map conjunct_words (match (λ k. k) (λ k. n + below (members set) k) (members set)))
-  set_matches_end set n q f =
-      ended_kept (λ k. locals 7 k (n + rank set k)) (in_set set) q 64 _
-      (match_same n (rank set) (below (members set)) (members set) (λ k. sym (below_members set k f)))
-
--- ---- how many of a set have been passed
-
-module _ (set q found next : ℕ) (t : Bool) (told : t ≡ in_set set q) (before : found ≡ rank set q) where
-  pub count_in : t ≡ true → next ≡ found + 1 → next ≡ rank set (q + 1)
-  unfolding rank
-  count_in is e = rw (add-one q) (omega (arith, eqb-true (bit_of set q) 1 (sym told ∙ is)))
-
-  pub count_out : t ≡ false → next ≡ found → next ≡ rank set (q + 1)
-  unfolding rank
-  count_out is e = let f = eqb-false (bit_of set q) 1 (sym told ∙ is) in rw (add-one q) (omega arith)
+pub set_matches_all : (set : ColumnSet) (n : ℕ) → set.bits < 2 ^ 64 → map (λ k. locals 7 k (n + rank set k)) (keep (in_set set) (upto 64))
+    ≡ map conjunct_words (match (λ k. k) (λ k. n + below (members set) k) (members set))
+set_matches_all set n f = match_same n (rank set) (below (members set)) (members set) (λ k. sym (below_members set k f))

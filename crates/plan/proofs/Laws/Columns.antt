@@ -1,94 +1,45 @@
 -- The columns that the terms and items of a node name.
-use mathlib.Core.Path.{◌≡◌, refl, sym, ◌∙◌}
+use mathlib.Core.Path.{◌≡◌, refl, sym, ap, ◌∙◌}
 use mathlib.Core.Bool.{Bool, true, false, not, cond, ◌&&◌, and-true, and-false, and_assoc}
+use mathlib.Core.Logic.{◌⊎◌, inl, inr}
 use mathlib.Core.List.{List, map}
 use Prim.Native.Nat.{ℕ, ◌+◌, ◌≤◌, ◌<◌}
 use native.Mathlib.Omega.{arith}
-use lib.IntN.{ℤ}
-use lib.Dec.{leb, ltb, eqb}
+use lib.Dec.{ltb, eqb}
 use lib.ListN.{length, get_or}
-use borrow.Author.Tests.{eqb-true, le-leb, lt-leb, eq-eqb, ne_eqb, not-true, not-false}
-use Rattle.algebra.specs.Plan as algebra
+use borrow.Author.Tests.{eqb-true, eqb-false, le-leb, lt-leb, ne_eqb}
 use Rattle.algebra.specs.Plan.{Kind, copy, add, subtract, count, sum, minimum, maximum}
 use Rattle.algebra.specs.Lists.{keep, all, is_empty, Every, done, more}
 use Rattle.algebra.proofs.Lists.Keep.{keep_all}
 use Rattle.algebra.proofs.Lists.Every.{every_map}
 use Rattle.algebra.proofs.Lists.Same.{and_left, and_right}
-use Rattle.plan.specs.declared.terms.Term.{Term}
-use Rattle.plan.specs.declared.terms.Term.TheVariants.{Local, Outer, Constant, Null}
-use Rattle.plan.specs.Words.{Item, nodes, operator, left, right, kind, first_item, item_count, items_of}
+use Rattle.plan.specs.Words.{Item, nodes, operator, left, right, kind, items_of}
 use Rattle.plan.specs.Items.{between, is_conjunct, is_computation, is_key, is_output, is_aggregate, position_of, term_of, conjunct_of, computation_of}
 use Rattle.plan.specs.Items.{aggregate_of, conjuncts_in, keys_in, aggregates_in, conjunct_right, computation_right, key_right, output_right, aggregate_right}
 use Rattle.plan.specs.Plan.{node_for, kind_of, computation_in}
-use Rattle.plan.specs.Terms.{meant}
 use Rattle.plan.specs.Verdict.{term_there, conjunct_there, computation_there, aggregate_there, columns_there, columns_right}
 use Rattle.plan.specs.Verdict.{in_front, items_right, has_right, width_at, scope_of}
+use Rattle.plan.specs.declared.operator.Operator.{Operator}
+use Rattle.plan.specs.declared.operator.Operator.TheVariants.{Scan}
+use Rattle.plan.specs.declared.sorts.Operation.{Operation}
+use Rattle.plan.specs.declared.sorts.Operation.TheVariants.{Copy, Add, Subtract}
+use Rattle.plan.specs.declared.sorts.Aggregate.{Aggregate}
+use Rattle.plan.specs.declared.sorts.Aggregate.TheVariants.{Count, Sum, Minimum, Maximum}
+use Rattle.plan.specs.Codes.{operator_of, operation_of, meant_aggregate}
 use Rattle.plan.specs.Promise.{Formed}
 use Rattle.plan.specs.Passes.{Widths, item_there}
 use Rattle.plan.proofs.Laws.Loops.{all_map, by_one}
 use Rattle.plan.proofs.Laws.Numbered.{every_all}
-use Rattle.plan.proofs.Laws.Formed.{between_low, between_high, by_operator, limited, facts_at, left_below, right_below}
+use Rattle.plan.proofs.Laws.Formed.{between_low, between_high, by_operator, facts_at, is_named, named_one, named_two}
+use Rattle.plan.proofs.Laws.Codes.{OneInput, TwoInputs, copy_tag, not_copy_tag}
 use Rattle.plan.proofs.Laws.Reach.{front_every}
 use Rattle.plan.proofs.Laws.Restored.{conjunct_not_aggregate, key_not_aggregate, aggregate_not_conjunct, aggregate_not_key}
 
--- ---- a term
-
-module _ (scope : List ℕ) (w : ℕ) (t : Term) where
-  -- a term of each sort asks for its column, if it has one
-  pub local_there : (p : ℕ) → t ≡ Local p → ltb p w ≡ term_there scope w (meant t)
-  unfolding term_there
-  local_there p e = rw e
-
-  pub outer_there : (l p u : ℕ) → t ≡ Outer l p → u ≡ get_or scope l 0 → ltb p u ≡ term_there scope w (meant t)
-  unfolding term_there
-  outer_there l p u e d = rw (e, d)
-
-  pub constant_there : (z : ℤ) → t ≡ Constant z → true ≡ term_there scope w (meant t)
-  unfolding term_there
-  constant_there z e = rw e
-
-  pub null_there : t ≡ Null → true ≡ term_there scope w (meant t)
-  unfolding term_there
-  null_there e = rw e
-
 -- ---- an item
 
-module _ (scope : List ℕ) (w v : ℕ) (x : Item) {t : ℕ} (e : t ≡ x.tag) where
-  -- a count
-  pub item_count_lem : t ≡ 13 → true ≡ item_there scope w v x
-  item_count_lem h = rw (sym e, h)
-
-  -- a key, an output column or another aggregate
-  pub item_position : 11 ≤ t → t < 17 → (t ≡ 13 → ⊥) → {p : ℕ} → p ≡ position_of x → ltb p v ≡ item_there scope w v x
-  item_position g h n d = rw (sym e, le-leb 11 t g, le-leb t 16 (omega arith), ne_eqb t 13 n, d)
-
-  module _ {u : algebra.Term} (q : u ≡ term_of x.first) {r : Bool} (d : r ≡ term_there scope w u) where
-    -- a copy
-    pub item_copy : t ≡ 8 → r ≡ item_there scope w v x
-    item_copy h = d ∙ rw (q, sym e, h) (sym (and-true (term_there scope w (term_of x.first))))
-
-    -- two terms, the first of which is missing
-    pub item_missing : between 11 16 t ≡ false → not r ≡ true → false ≡ item_there scope w v x
-    item_missing b h = rw (sym e, b, sym q, sym d, not-true r h)
-
-    -- or is there
-    pub item_both : between 11 16 t ≡ false → (t ≡ 8 → ⊥) → not r ≡ false
-        → {u₂ : algebra.Term} {s : Bool} → u₂ ≡ term_of x.second → s ≡ term_there scope w u₂ → s ≡ item_there scope w v x
-    item_both b n h z c = c ∙ rw (z, sym e, b, sym q, sym d, not-false r h, ne_eqb t 8 n)
-
--- a tag below 11 or above 16 names no position
-pub outside_low : (t : ℕ) → t < 11 → between 11 16 t ≡ false
+-- a tag below 11 names no position
+outside_low : (t : ℕ) → t < 11 → between 11 16 t ≡ false
 outside_low t h = rw (lt-leb 11 t h)
-
-pub outside_high : (t : ℕ) → 17 ≤ t → between 11 16 t ≡ false
-outside_high t h = rw (lt-leb t 16 (omega arith), and-false (leb 11 t))
-
--- ---- the items of a node
-
--- the place of an item of node n
-pub item_place : (ws : List ℕ) → Formed ws → (n a many i : ℕ) → n < nodes ws → a ≡ first_item ws n → many ≡ item_count ws n → i < many
-    → a + i < 2000
-item_place ws f n a many i h e d l = omega (arith, (facts_at ws f n h).within, (limited ws f.sized).items_few)
 
 -- ---- items by their sorts
 
@@ -139,7 +90,7 @@ module _ (scope : List ℕ) (w v : ℕ) (x : Item) where
       go false false = refl
 
   position_there : 11 ≤ x.tag → x.tag ≤ 12 → ltb (position_of x) v ≡ item_there scope w v x
-  position_there g h = item_position scope w v x refl g (omega arith) (λ e. omega arith) refl
+  position_there g h = rw (le-leb 11 x.tag g, le-leb x.tag 16 (omega arith), ne_eqb x.tag 13 (λ e. omega arith))
 
   aggregate_there_lem : is_aggregate x ≡ true → aggregate_there v (aggregate_of x) ≡ item_there scope w v x
   unfolding aggregate_there aggregate_of
@@ -155,6 +106,28 @@ module _ (scope : List ℕ) (w v : ℕ) (x : Item) where
       go false true c = refl
       go false false true = refl
       go false false false = refl
+
+  -- the same as the code reads it
+  module _ (h : is_aggregate x ≡ true) {a : Aggregate} (e : meant_aggregate a ≡ aggregate_of x) where
+    pub count_there : a ≡ Count → true ≡ item_there scope w v x
+    unfolding aggregate_there
+    count_there q = ap (aggregate_there v) (sym (ap meant_aggregate q) ∙ e) ∙ aggregate_there_lem h
+
+    pub column_there : {p : ℕ} → (a ≡ Sum p) ⊎ ((a ≡ Minimum p) ⊎ (a ≡ Maximum p)) → ltb p v ≡ item_there scope w v x
+    unfolding aggregate_there
+    column_there (inl q) = ap (aggregate_there v) (sym (ap meant_aggregate q) ∙ e) ∙ aggregate_there_lem h
+    column_there (inr (inl q)) = ap (aggregate_there v) (sym (ap meant_aggregate q) ∙ e) ∙ aggregate_there_lem h
+    column_there (inr (inr q)) = ap (aggregate_there v) (sym (ap meant_aggregate q) ∙ e) ∙ aggregate_there_lem h
+
+  module _ (h : is_computation x ≡ true) {o : Operation} (e : o ≡ operation_of x.tag) where
+    low : between 11 16 x.tag ≡ false
+    low = let g : x.tag ≤ 10 = between_high 8 10 x.tag h in outside_low x.tag (omega arith)
+
+    pub copy_there : o ≡ Copy → {b : Bool} → b ≡ term_there scope w (term_of x.first) → b ≡ item_there scope w v x
+    copy_there q d = d ∙ rw (low, copy_tag x.tag (sym q ∙ e)) (sym (and-true (term_there scope w (term_of x.first))))
+
+    pub both_there : (o ≡ Add) ⊎ (o ≡ Subtract) → {b : Bool} → b ≡ conjunct_there scope w (conjunct_of x) → b ≡ item_there scope w v x
+    both_there q d = d ∙ rw (low, not_copy_tag x.tag e q)
 
 -- ---- the columns of a node
 
@@ -242,7 +215,7 @@ columns_for width scope l r k xs =
     (and_right (ltb (length (keep is_conjunct xs)) (length xs)) _ e))
     (conjuncts_there scope (width l + width r) (width r) xs)
 
-module _ (ws : List ℕ) (f : Formed ws) (n : ℕ) (h : n < nodes ws) {o : ℕ} (e : o ≡ operator ws n) where
+module _ (ws : List ℕ) (f : Formed ws) (n : ℕ) (h : n < nodes ws) {x : Operator} (e : x ≡ operator_of (operator ws n)) where
   -- the items of node n, over rows of width w and a last input of width v
   abbrev all_there : ℕ → ℕ → Bool
   all_there w v = all (item_there (scope_of ws n) w v) (items_of ws n)
@@ -258,21 +231,24 @@ module _ (ws : List ℕ) (f : Formed ws) (n : ℕ) (h : n < nodes ws) {o : ℕ} 
       columns_for (width_at ws) (scope_of ws n) (left ws n) (right ws n) (kind_of (kind ws n)) (items_of ws n) (operator ws n) t.low t.high t.sorts
 
   -- a scan names no column
-  pub columns_scan : o ≡ 1 → true ≡ columns_right ws n
-  columns_scan q = sym (columns_at ∙ rw (eq-eqb (operator ws n) 1 (sym e ∙ q)))
+  pub columns_scan : x ≡ Scan → true ≡ columns_right ws n
+  columns_scan q = sym (columns_at ∙ rw (is_named ws f n h e q))
 
-  module _ (rows : List ℕ) (k : Widths ws rows) (q : o ≡ 1 → ⊥) {i w : ℕ} (d : i ≡ left ws n) (t : w ≡ i) where
+  module _ (rows : List ℕ) (k : Widths ws rows) {i : ℕ} (d : i ≡ left ws n) where
     -- the table has the width of the left input
-    left_width : get_or rows w 0 ≡ width_at ws (left ws n)
-    left_width = rw (t, d) (k (left ws n) (omega (arith, left_below ws f n h e q d t)))
+    left_width : eqb (operator ws n) 1 ≡ false → get_or rows i 0 ≡ width_at ws (left ws n)
+    left_width q = rw d (k (left ws n) (omega (arith, (facts_at ws f n h).left_node (eqb-false _ _ q))))
 
     -- a node with one input
-    pub columns_one : has_right o ≡ false → {r : Bool} → r ≡ all_there (get_or rows w 0) (get_or rows w 0) → r ≡ columns_right ws n
-    columns_one s a = a ∙ rw left_width (sym (columns_at ∙ rw (sym e, ne_eqb o 1 q, s)))
+    pub columns_one : OneInput x → {r : Bool} → r ≡ all_there (get_or rows i 0) (get_or rows i 0) → r ≡ columns_right ws n
+    columns_one t a =
+        let q = named_one ws f n h e t in
+        a ∙ rw (left_width q.0) (sym (columns_at ∙ rw (q.0, q.1)))
 
     -- a node with two inputs
-    pub columns_two : {j v : ℕ} → j ≡ right ws n → v ≡ j → has_right o ≡ true
-        → {r : Bool} → r ≡ all_there (get_or rows w 0 + get_or rows v 0) (get_or rows v 0) → r ≡ columns_right ws n
-    columns_two {j} {v} c z s a =
-        let x : get_or rows v 0 ≡ width_at ws (right ws n) = rw (z, c) (k (right ws n) (omega (arith, right_below ws f n h e s c z))) in
-        a ∙ rw (left_width, x) (sym (columns_at ∙ rw (sym e, ne_eqb o 1 q, s)))
+    pub columns_two : {j : ℕ} → j ≡ right ws n → TwoInputs x
+        → {r : Bool} → r ≡ all_there (get_or rows i 0 + get_or rows j 0) (get_or rows j 0) → r ≡ columns_right ws n
+    columns_two {j} c t a =
+        let q = named_two ws f n h e t in
+        let y : get_or rows j 0 ≡ width_at ws (right ws n) = rw c (k (right ws n) (omega (arith, (facts_at ws f n h).right_node q.1))) in
+        a ∙ rw (left_width q.0, y) (sym (columns_at ∙ rw (q.0, q.1)))

@@ -1,5 +1,5 @@
 -- What well-formed words say of each node.
-use mathlib.Core.Path.{◌≡◌, refl, sym, ◌∙◌}
+use mathlib.Core.Path.{◌≡◌, refl, sym, ap, ◌∙◌}
 use mathlib.Core.Bool.{Bool, true, false, cond}
 use mathlib.Core.List.{List, [], ◌∷◌, map}
 use Prim.Native.Nat.{ℕ, zero, suc, ◌+◌, ◌≤◌, ◌<◌}
@@ -7,6 +7,8 @@ use native.Mathlib.Omega.{arith}
 use lib.Dec.{leb, ltb, eqb}
 use lib.ListN.{length, get_or}
 use borrow.Author.Tests.{ltb-true, leb-true, eqb-true, eqb-false, eq-eqb, ne_eqb}
+use denote.Enum.Bare.{sameb, same_true, same_false}
+use Rattle.plan.specs.contracts.operator.Operator.{the_type}
 use Rattle.algebra.specs.Lists.{upto, Every, done, more}
 use Rattle.algebra.specs.Plan.{Kind, inputs}
 use Rattle.algebra.specs.Columns.{shape_of, shape_at}
@@ -17,9 +19,12 @@ use Rattle.plan.specs.Words.{Item, tables, nodes, items, operator, left, right, 
 use Rattle.plan.specs.Items.{between}
 use Rattle.plan.specs.Plan.{node_for, node_at, kind_of, widths_of, nodes_of}
 use Rattle.plan.specs.Verdict.{has_right, has_kind, items_right, items_before, inputs_right, kind_right, count_right, node_right}
+use Rattle.plan.specs.declared.operator.Operator.{Operator}
+use Rattle.plan.specs.Codes.{operator_of, number_of, has_left}
 use Rattle.plan.specs.Promise.{Sized, Formed}
 use Rattle.plan.proofs.Laws.Header.{both, between_says, Limits, limits_say}
 use Rattle.plan.proofs.Laws.Numbered.{numbered_at, numbered_length}
+use Rattle.plan.proofs.Laws.Codes.{number_back, operator_back, OneInput, TwoInputs, one_input, two_inputs}
 
 -- ---- numbers
 
@@ -91,6 +96,7 @@ pub record NodeFacts (ws : List ℕ) (n : ℕ) : Type 0 where
   pub left_table : operator ws n ≡ 1 → left ws n < tables ws
   pub left_node : (operator ws n ≡ 1 → ⊥) → left ws n < n
   pub right_node : has_right (operator ws n) ≡ true → right ws n < n
+  pub right_none : has_right (operator ws n) ≡ false → right ws n ≡ 0
   pub kind_low : has_kind (operator ws n) ≡ true → 1 ≤ kind ws n
   pub kind_high : has_kind (operator ws n) ≡ true → kind ws n ≤ 4
   pub first : first_item ws n ≡ items_before ws n
@@ -112,6 +118,7 @@ node_facts ws n e =
       left_table = λ q. ltb-true _ _ (rw (eq-eqb (operator ws n) 1 q) at lefts);
       left_node = λ q. ltb-true _ _ (rw (ne_eqb (operator ws n) 1 q) at lefts);
       right_node = λ q. ltb-true _ _ (rw q at rights);
+      right_none = λ q. eqb-true _ _ (rw q at rights);
       kind_low = λ q. between_low 1 4 (kind ws n) (rw q at kinds);
       kind_high = λ q. between_high 1 4 (kind ws n) (rw q at kinds);
       first = counts.0;
@@ -131,9 +138,47 @@ inputs_for l r k xs =
     by_operator (λ o. inputs (node_for o l r k xs) ≡ cond (eqb o 1) [] (cond (has_right o) (l ∷ r ∷ []) (l ∷ []))) refl refl refl refl refl refl refl refl
 
 module _ (ws : List ℕ) (f : Formed ws) (n : ℕ) (h : n < nodes ws) where
+  -- a table of all nodes has its number
+  pub numbers_few : n < 256
+  numbers_few = omega (arith, (limited ws f.sized).nodes_few)
+
   -- the facts of node n
   pub facts_at : NodeFacts ws n
   facts_at = node_facts ws n (f.formed n h)
+
+  -- what its operator's number says, as the code reads the operator
+  module _ {x : Operator} (e : x ≡ operator_of (operator ws n)) where
+    pub named : number_of x ≡ operator ws n
+    named = ap number_of e ∙ number_back (operator ws n) facts_at.low facts_at.high
+
+    -- it is that of an operator where they are the same
+    pub is_named : {y : Operator} → x ≡ y → operator ws n ≡ number_of y
+    is_named q = sym named ∙ ap number_of q
+
+    pub not_named : (y : Operator) → (x ≡ y → ⊥) → operator ws n ≡ number_of y → ⊥
+    not_named y q g = q (e ∙ ap operator_of g ∙ operator_back y)
+
+    -- as a test of the operator says
+    pub named_is : (y : Operator) → sameb the_type x y ≡ eqb (operator ws n) (number_of y)
+    named_is y = go (sameb the_type x y) refl
+      where
+        go : (b : Bool) → sameb the_type x y ≡ b → b ≡ eqb (operator ws n) (number_of y)
+        go true t = sym (eq-eqb _ _ (is_named (same_true the_type tt x y t)))
+        go false t = sym (ne_eqb _ _ (not_named y (same_false the_type x y t)))
+
+    -- one input
+    pub named_one : OneInput x → (eqb (operator ws n) 1 ≡ false) × (has_right (operator ws n) ≡ false)
+    named_one t = rw named at (one_input t)
+
+    -- two
+    pub named_two : TwoInputs x → (eqb (operator ws n) 1 ≡ false) × (has_right (operator ws n) ≡ true)
+    named_two t = rw named at (two_inputs t)
+
+    pub named_left : {b : Bool} → b ≡ has_left (number_of x) → b ≡ has_left (operator ws n)
+    named_left says = says ∙ ap has_left named
+
+    pub named_right : {b : Bool} → b ≡ has_right (number_of x) → b ≡ has_right (operator ws n)
+    named_right says = says ∙ ap has_right named
 
   -- the inputs of a dependent join are nodes
   pub dependent_left : operator ws n ≡ 8 → left ws n < nodes ws
@@ -141,6 +186,21 @@ module _ (ws : List ℕ) (f : Formed ws) (n : ℕ) (h : n < nodes ws) where
 
   pub dependent_right : operator ws n ≡ 8 → right ws n < nodes ws
   dependent_right e = omega (arith, facts_at.right_node (rw e))
+
+  -- what a node names as its inputs is a node, or a table, of which there are fewer
+  pub left_in : {i : ℕ} → i ≡ left ws n → i < 256
+  left_in {i} e = go (eqb (operator ws n) 1) refl
+    where
+      go : (b : Bool) → eqb (operator ws n) 1 ≡ b → i < 256
+      go true q = omega (arith, e, facts_at.left_table (eqb-true _ _ q), (limited ws f.sized).tables_few)
+      go false q = omega (arith, e, facts_at.left_node (eqb-false _ _ q), (limited ws f.sized).nodes_few)
+
+  pub right_in : {i : ℕ} → i ≡ right ws n → i < 256
+  right_in {i} e = go (has_right (operator ws n)) refl
+    where
+      go : (b : Bool) → has_right (operator ws n) ≡ b → i < 256
+      go true q = omega (arith, e, facts_at.right_node q, (limited ws f.sized).nodes_few)
+      go false q = omega (arith, e, facts_at.right_none q)
 
   -- the inputs of node n by its words
   pub inputs_at : inputs (node_at ws n) ≡ cond (eqb (operator ws n) 1) [] (cond (has_right (operator ws n)) (left ws n ∷ right ws n ∷ []) (left ws n ∷ []))
@@ -162,11 +222,18 @@ module _ (ws : List ℕ) (f : Formed ws) (n : ℕ) (h : n < nodes ws) where
 
   -- the same as the code reads them
   module _ {o : ℕ} (e : o ≡ operator ws n) where
-    pub left_below : (o ≡ 1 → ⊥) → {i w : ℕ} → i ≡ left ws n → w ≡ i → w < n
-    left_below q d t = omega (arith, facts_at.left_node (λ s. q (e ∙ s)))
+    pub left_below : (o ≡ 1 → ⊥) → {i : ℕ} → i ≡ left ws n → i < n
+    left_below q d = omega (arith, facts_at.left_node (λ s. q (e ∙ s)))
 
-    pub right_below : has_right o ≡ true → {i w : ℕ} → i ≡ right ws n → w ≡ i → w < n
-    right_below q d t = omega (arith, facts_at.right_node (rw (sym e) q))
+    pub right_below : has_right o ≡ true → {i : ℕ} → i ≡ right ws n → i < n
+    right_below q d = omega (arith, facts_at.right_node (rw (sym e) q))
+
+  -- both inputs are nodes before it
+  module _ {x : Operator} (e : x ≡ operator_of (operator ws n)) (t : TwoInputs x) where
+    pub inputs_there : {l r : ℕ} → l ≡ left ws n → r ≡ right ws n → (l < n) × (r < n)
+    inputs_there el er =
+        let q = named_two e t in
+        (omega (arith, el, facts_at.left_node (eqb-false _ _ q.0)), omega (arith, er, facts_at.right_node q.1))
 
 pub nodes_length : (ws : List ℕ) → length (nodes_of ws) ≡ nodes ws
 nodes_length ws = numbered_length (node_at ws) (nodes ws)

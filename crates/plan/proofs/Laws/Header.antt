@@ -2,7 +2,7 @@
 use mathlib.Core.Path.{◌≡◌, refl, sym, ◌∙◌}
 use mathlib.Core.Bool.{Bool, true, false, ◌&&◌}
 use mathlib.Core.List.{List, map}
-use Prim.Native.Nat.{ℕ, ◌+◌, ◌*◌, ◌<◌, ◌≤◌}
+use Prim.Native.Nat.{ℕ, ◌+◌, ◌*◌, ◌≤◌}
 use lib.Dec.{eqb}
 use lib.ListN.{length}
 use borrow.Author.Tests.{le-leb, leb-true, eq-eqb, eqb-true}
@@ -12,7 +12,7 @@ use Rattle.algebra.proofs.Lists.Same.{and_left, and_right}
 use Rattle.plan.specs.Words.{word, tables, nodes, items, table_width}
 use Rattle.plan.specs.Items.{between}
 use Rattle.plan.specs.Verdict.{header_right, limits_right}
-use Rattle.plan.proofs.Laws.Loops.{all_more, all_fails, all_end, all_map}
+use Rattle.plan.proofs.Laws.Loops.{all_map}
 
 -- both sides of a conjunction
 pub both : (a b : Bool) → (a && b) ≡ true → (a ≡ true) × (b ≡ true)
@@ -55,10 +55,6 @@ module _ (ws : List ℕ) where
         last = eqb-true _ _ g.1;
       }
 
-  -- a part of the header is wrong
-  pub header_fails : (Header → ⊥) → false ≡ header_right ws
-  header_fails f = refuted (header_right ws) (λ e. f (header_says e))
-
   -- all but the last word is right
   pub header_last : 8 ≤ length ws → word ws 0 ≡ length ws → word ws 0 ≡ 8 + tables ws + 6 * nodes ws + 7 * items ws → word ws 2 ≡ 8
       → word ws 4 ≡ 8 + tables ws → word ws 6 ≡ 8 + tables ws + 6 * nodes ws → (x : ℕ) → x ≡ word ws 7 → eqb x 0 ≡ header_right ws
@@ -87,19 +83,6 @@ module _ (ws : List ℕ) where
   pub widths_mapped : (n : ℕ) → all (between 1 64) (map (table_width ws) (upto n)) ≡ widths_right n
   widths_mapped n = all_map (table_width ws) (between 1 64) (λ t. between 1 64 (table_width ws t)) (every_of (λ t. refl) (upto n))
 
-  -- one table more
-  pub widths_more : (i w : ℕ) → widths_right i ≡ true → w ≡ table_width ws i → 1 ≤ w → w ≤ 64 → widths_right (i + 1) ≡ true
-  widths_more i w e q g h =
-      sym (widths_mapped (i + 1)) ∙ all_more (between 1 64) (table_width ws) i (widths_mapped i ∙ e) (rw q at (between_holds 1 64 w g h))
-
-  -- a table whose width is not within its limit
-  pub widths_fail : (i n w : ℕ) → w ≡ table_width ws i → ((1 ≤ w) × (w ≤ 64) → ⊥) → i < n → false ≡ widths_right n
-  widths_fail i n w q f l = all_fails (between 1 64) (table_width ws) i n (rw q at (between_fails 1 64 w f)) l ∙ widths_mapped n
-
-  -- all tables passed
-  pub widths_end : (i n : ℕ) → widths_right i ≡ true → n ≤ i → i ≤ n → true ≡ widths_right n
-  widths_end i n e g h = all_end (between 1 64) (table_width ws) i n (widths_mapped i ∙ e) g h ∙ widths_mapped n
-
   -- what right limits say
   pub record Limits : Type 0 where
     pub tables_some : 1 ≤ tables ws
@@ -125,10 +108,6 @@ module _ (ws : List ℕ) where
         items_few = leb-true _ _ c.0;
         widths = c.1;
       }
-
-  -- a number is not within its limit
-  pub limits_fail : (Limits → ⊥) → false ≡ limits_right ws
-  limits_fail f = refuted (limits_right ws) (λ e. f (limits_say e))
 
   -- the numbers are right, and the widths are left
   pub limits_last : 1 ≤ tables ws → tables ws ≤ 16 → 1 ≤ nodes ws → nodes ws ≤ 256 → items ws ≤ 2000

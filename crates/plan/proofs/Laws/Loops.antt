@@ -13,7 +13,9 @@ use Rattle.algebra.specs.Lists.{keep, all, upto, is_empty, Every, done, more}
 use Rattle.algebra.proofs.Lists.Keep.{keep_append, keep_same, keep_all, keep_none, map_append}
 use Rattle.algebra.proofs.Lists.Every.{every_keep, every_kept, every_unkeep}
 use Rattle.algebra.proofs.Domains.Keys.{upto_all, upto_below}
+use Rattle.std.specs.Prelude.{Some, None, slice_get}
 use Rattle.plan.specs.Verdict.{lowest}
+use Rattle.plan.specs.Passes.{first}
 
 -- ---- the lowest number that passes
 
@@ -23,7 +25,7 @@ module _ (p : ℕ → Bool) where
   none_more i e h = rw (add-one i, keep_append p (upto i) (i ∷ []), e, h)
 
   -- the first number that passes is kept first
-  first_kept : (i n : ℕ) → keep p (upto i) ≡ [] → p i ≡ true → i < n → (rest : List ℕ) × (keep p (upto n) ≡ i ∷ rest)
+  pub first_kept : (i n : ℕ) → keep p (upto i) ≡ [] → p i ≡ true → i < n → (rest : List ℕ) × (keep p (upto n) ≡ i ∷ rest)
   first_kept i zero e h l = absurd (omega arith)
   first_kept i (suc n) e h l = go (ltb i n) refl (first_kept i n e h)
     where
@@ -39,6 +41,14 @@ module _ (p : ℕ → Bool) where
   -- the first number that passes
   pub lowest_found : (i n : ℕ) → keep p (upto i) ≡ [] → p i ≡ true → i < n → i ≡ lowest p n
   lowest_found i n e h l = sym (ap (λ (l : List ℕ). get_or l 0 n) (first_kept i n e h l).1)
+
+  -- the same, where there may be none
+  pub first_found : (i n : ℕ) → keep p (upto i) ≡ [] → p i ≡ true → i < n → Some i ≡ first p n
+  first_found i n e h l = sym (ap (λ (l : List ℕ). slice_get l 0) (first_kept i n e h l).1)
+
+  -- the loop ended without finding one
+  pub first_end : (i n : ℕ) → keep p (upto i) ≡ [] → n ≤ i → i ≤ n → None ≡ first p n
+  first_end i n e g h = let q : i ≡ n = omega arith in sym (ap (λ (l : List ℕ). slice_get l 0) (rw q at e))
 
   -- no number passes
   pub lowest_none : (n : ℕ) → keep p (upto n) ≡ [] → n ≡ lowest p n
@@ -79,8 +89,8 @@ lowest_same p q n f = ap (λ (ks : List ℕ). get_or ks 0 n) (keep_same p q (upt
 -- the lowest number that does not pass, where the loop answered b for i
 module _ (p : ℕ → Bool) (i : ℕ) {b : Bool} (says : b ≡ p i) (none : keep (λ k. not (p k)) (upto i) ≡ []) where
   -- i does not pass
-  pub wrong_found : not b ≡ true → {m n : ℕ} → m ≡ n → i < m → i ≡ lowest (λ k. not (p k)) n
-  wrong_found e {m} {n} q h = lowest_found (λ k. not (p k)) i n none (rw (← says) e) (rw q at h)
+  pub wrong_found : not b ≡ true → (n : ℕ) → i < n → Some i ≡ first (λ k. not (p k)) n
+  wrong_found e n h = first_found (λ k. not (p k)) i n none (rw (← says) e) h
 
   -- i passes
   pub wrong_more : not b ≡ false → keep (λ k. not (p k)) (upto (i + 1)) ≡ []
@@ -114,10 +124,6 @@ module _ {A : Type 0} (p : A → Bool) where
         go : (b : Bool) → ltb i n ≡ b → (i < n → false ≡ all p (map f (upto n))) → (all p (map f (upto n)) && (p (f n) && true)) ≡ false
         go true t before = rw (sym (before (ltb-true i n t)))
         go false t before = here n (omega (arith, ltb-false i n t))
-
-    -- all elements passed
-    pub all_end : (i n : ℕ) → all p (map f (upto i)) ≡ true → n ≤ i → i ≤ n → true ≡ all p (map f (upto n))
-    all_end i n e g h = let q : i ≡ n = omega arith in sym (rw q at e)
 
 -- what is worked out of each element passes as the element does
 pub all_map : {A B : Type 0} (f : A → B) (p : B → Bool) (q : A → Bool) {xs : List A} → Every (λ x. p (f x) ≡ q x) xs → all p (map f xs) ≡ all q xs

@@ -1,13 +1,14 @@
 -- How far a node's terms reach beyond it.
 use mathlib.Core.Path.{◌≡◌, refl, sym, ap, ap₂, ◌∙◌}
 use mathlib.Core.Bool.{Bool, true, false, not, cond, ◌&&◌, true≢false}
+use mathlib.Core.Logic.{◌⊎◌, inl, inr}
 use mathlib.Core.List.{List, [], ◌∷◌, ◌++◌, map}
-use Prim.Native.Nat.{ℕ, zero, suc, ◌+◌, ◌-◌, ◌≤◌, ◌<◌, max, pred}
+use Prim.Native.Nat.{ℕ, zero, suc, ◌+◌, ◌≤◌, ◌<◌, max, pred}
 use native.Mathlib.Omega.{arith}
 use native.Mathlib.Numerals.{add-one}
 use lib.Dec.{leb, ltb, eqb}
 use lib.ListN.{length, get_or, take, drop, take-append-drop}
-use borrow.Author.Tests.{leb-true, eqb-true, eqb-false, eq-eqb, ne_eqb, lt-ltb, le-ltb, not-false}
+use borrow.Author.Tests.{leb-true, eqb-true, eqb-false, lt-ltb}
 use Rattle.algebra.specs.Lists.{keep, all, each, is_empty, upto, Every, done, more}
 use Rattle.algebra.specs.Plan.{Term, copy, add, subtract, Kind}
 use Rattle.algebra.specs.Columns.{Column, term_reads, conjunct_reads, computation_reads, past_one, past, reads_of, Shape, shape_at}
@@ -19,22 +20,18 @@ use Rattle.plan.specs.Words.{Three, Item, nodes, operator, left, right, kind, fi
 use Rattle.plan.specs.Items.{term_of, conjunct_of, computation_of, is_conjunct, is_computation, is_key, is_output, is_aggregate}
 use Rattle.plan.specs.Items.{conjuncts_in, term_right, is_local, is_unused, conjunct_right, computation_right, key_right, output_right, aggregate_right}
 use Rattle.plan.specs.Plan.{computation_in, node_for, kind_of, widths_of, nodes_of}
-use Rattle.plan.specs.Verdict.{uses_of, is_open_twice, has_right, in_front, items_right}
+use Rattle.plan.specs.Verdict.{is_open_twice, has_right, in_front, items_right}
+use Rattle.plan.specs.declared.operator.Operator.{Operator}
+use Rattle.plan.specs.declared.operator.Operator.TheVariants.{Scan, Join, Groupjoin, Dependent}
+use Rattle.plan.specs.Codes.{operator_of, number_of}
 use Rattle.plan.specs.Promise.{Sized, Formed}
 use Rattle.plan.specs.Passes.{Counted, Reaches, reach, term_reach, items_reach, node_reach}
 use Rattle.plan.proofs.Laws.Loops.{empty_nil, by_one}
 use Rattle.plan.proofs.Laws.Numbered.{every_all}
-use Rattle.plan.proofs.Laws.Formed.{by_operator, facts_at, limited, left_below, right_below, shape_of_lem}
+use Rattle.plan.proofs.Laws.Codes.{OneInput}
+use Rattle.plan.proofs.Laws.Formed.{by_operator, facts_at, limited, named, shape_of_lem}
 
 -- ---- terms and items as the code reads them
-
--- an outer term
-pub outer_reach : {c l code level : ℕ} → c ≡ code → c ≡ 1 → l ≡ level → l + 1 ≡ cond (eqb code 1) (suc level) 0
-outer_reach {c} {l} {code} {level} e h g = rw (eq-eqb code 1 (sym e ∙ h)) (omega arith)
-
--- another term
-pub inner_reach : {c code : ℕ} (level : ℕ) → c ≡ code → (c ≡ 1 → ⊥) → 0 ≡ cond (eqb code 1) (suc level) 0
-inner_reach {c} {code} level e h = rw (ne_eqb code 1 (λ q. h (e ∙ q)))
 
 -- the reach of one item
 abbrev pub item_reach : Item → ℕ
@@ -46,10 +43,8 @@ items_snoc [] x = omega arith
 items_snoc (y ∷ xs) x = omega (arith, items_snoc xs x)
 
 -- one item more
-pub reach_more : (f : ℕ → Item) (i : ℕ) {r a b u v : ℕ} → r ≡ items_reach (map f (upto i))
-    → a ≡ term_reach (f i).first → b ≡ term_reach (f i).second → u ≡ max a b → v ≡ max r u
-    → v ≡ items_reach (map f (upto (i + 1)))
-reach_more f i {r} {a} {b} {u} {v} e g h q t = rw (add-one i, map_append f (upto i) (i ∷ []), items_snoc (map f (upto i)) (f i)) (omega arith)
+pub reach_more : (f : ℕ → Item) (i : ℕ) → items_reach (map f (upto (i + 1))) ≡ max (items_reach (map f (upto i))) (item_reach (f i))
+reach_more f i = rw (add-one i, map_append f (upto i) (i ∷ [])) (items_snoc (map f (upto i)) (f i))
 
 -- ---- items by their sorts
 
@@ -146,8 +141,8 @@ reach_past (c ∷ cs) = reach_append (past_one c.level c.position) (past cs) ∙
     go (suc l) p e = omega arith
 
 -- two terms
-two_reach : (s t : Three) → reach (term_reads (term_of s) ++ term_reads (term_of t)) ≡ max (term_reach s) (term_reach t)
-two_reach s t = reach_append (term_reads (term_of s)) (term_reads (term_of t)) ∙ ap₂ max (three_reach s) (three_reach t)
+both_reach : (s t : Three) → reach (term_reads (term_of s) ++ term_reads (term_of t)) ≡ max (term_reach s) (term_reach t)
+both_reach s t = reach_append (term_reads (term_of s)) (term_reads (term_of t)) ∙ ap₂ max (three_reach s) (three_reach t)
 
 -- what is no conjunct reads nothing
 abbrev Quiet : Item → Type 0
@@ -160,7 +155,7 @@ conjuncts_reach (more {x} {xs} q t) = go (is_conjunct x) refl (conjuncts_reach t
   where
     go : (b : Bool) → is_conjunct x ≡ b → reach (each conjunct_reads (conjuncts_in xs)) ≡ items_reach xs
         → reach (each conjunct_reads (map conjunct_of (cond b (x ∷ keep is_conjunct xs) (keep is_conjunct xs)))) ≡ items_reach (x ∷ xs)
-    go true e h = reach_append (conjunct_reads (conjunct_of x)) (each conjunct_reads (conjuncts_in xs)) ∙ ap₂ max (two_reach x.first x.second) h
+    go true e h = reach_append (conjunct_reads (conjunct_of x)) (each conjunct_reads (conjuncts_in xs)) ∙ ap₂ max (both_reach x.first x.second) h
     go false e h = omega (arith, h, q e)
 
 -- items that reach nothing
@@ -207,8 +202,8 @@ computation_reach x e = go (eqb x.tag 8) (eqb x.tag 9) (and_right (term_right x.
         → (let p = term_of x.first in let q = term_of x.second in reach (computation_reads (cond a (copy p) (cond b (add p q) (subtract p q)))))
         ≡ item_reach x
     go true b h = omega (arith, three_reach x.first, local_reach x.second (unused_local x.second h))
-    go false true h = two_reach x.first x.second
-    go false false h = two_reach x.first x.second
+    go false true h = both_reach x.first x.second
+    go false false h = both_reach x.first x.second
 
 -- the one computation of a node
 compute_reach : (xs : List Item) → length xs ≡ 1 → all computation_right xs ≡ true → reach (computation_reads (computation_in xs)) ≡ items_reach xs
@@ -298,48 +293,37 @@ module _ (ws : List ℕ) (f : Formed ws) (n : ℕ) (h : n < nodes ws) where
         upto_all (item_count ws n) (every_unmapped (λ i. item_at ws (first_item ws n + i)) (upto (item_count ws n)) low),
       )
 
-  -- inputs are nodes
-  module _ {o : ℕ} (eo : o ≡ operator ws n) where
-    -- its left input
-    pub left_in : (o ≡ 1 → ⊥) → {l i : ℕ} → l ≡ left ws n → i ≡ l → i < 256
-    left_in q e g = omega (arith, left_below ws f n h eo q e g, (limited ws f.sized).nodes_few)
+-- ---- the reach of a node, as the code reads it
 
-    -- its right input
-    pub right_in : {b : Bool} → b ≡ has_right o → not b ≡ false → {r i : ℕ} → r ≡ right ws n → i ≡ r → i < 256
-    right_in {b} q p e g = omega (arith, right_below ws f n h eo (sym q ∙ not-false b p) e g, (limited ws f.sized).nodes_few)
+-- by its operator
+one_by : {x : Operator} (own l r : ℕ) → OneInput x → reach_by (number_of x) own l r ≡ max own l
+one_by own l r (inl e) = rw e
+one_by own l r (inr (inl e)) = rw e
+one_by own l r (inr (inr (inl e))) = rw e
+one_by own l r (inr (inr (inr e))) = rw e
 
--- ---- a node as the code reads it
+two_by : {x : Operator} (own l r : ℕ) → (x ≡ Join) ⊎ (x ≡ Groupjoin) → reach_by (number_of x) own l r ≡ max (max own l) r
+two_by own l r (inl e) = rw e
+two_by own l r (inr e) = rw e
 
--- the reach of the node's own items
-pub own_reach : (ws : List ℕ) (n : ℕ) {a m own : ℕ} → a ≡ first_item ws n → m ≡ item_count ws n → own ≡ items_reach (items_from ws a m)
-    → own ≡ items_reach (items_of ws n)
-own_reach ws n ea em ew = rw (ea, em) at ew
+module _ (ws : List ℕ) (f : Formed ws) (n : ℕ) (h : n < nodes ws) {x : Operator} (is : x ≡ operator_of (operator ws n)) (at : ℕ → ℕ)
+    {a m own : ℕ} (ea : a ≡ first_item ws n) (em : m ≡ item_count ws n) (eo : own ≡ items_reach (items_from ws a m)) where
+  read_reach : {w : ℕ} → w ≡ reach_by (number_of x) own (at (left ws n)) (at (right ws n)) → w ≡ node_reach ws at n
+  read_reach e = e ∙ rw (eo, ea, em, named ws f n h is)
 
--- what is said of what the code read is said of the node
-pub reach_read : (ws : List ℕ) (n : ℕ) (at : ℕ → ℕ) {o own l r y : ℕ} → o ≡ operator ws n → own ≡ items_reach (items_of ws n)
-    → l ≡ at (left ws n) → r ≡ at (right ws n) → y ≡ reach_by o own l r → y ≡ node_reach ws at n
-reach_read ws n at eo ew el er q = rw (sym eo, sym ew, sym el, sym er) q
+  pub scan_reach : x ≡ Scan → own ≡ node_reach ws at n
+  scan_reach e = read_reach (rw e)
 
--- by operator, from its own items, its left input and its right
-module _ (o own l r : ℕ) where
-  pub scan_reach : o ≡ 1 → own ≡ reach_by o own l r
-  scan_reach e = rw e
+  module _ {l : ℕ} (el : l ≡ left ws n) where
+    pub one_reach : OneInput x → {w : ℕ} → w ≡ max own (at l) → w ≡ node_reach ws at n
+    one_reach t e = read_reach (e ∙ rw el (sym (one_by own (at (left ws n)) (at (right ws n)) t)))
 
-  -- a node with one input
-  pub one_reach : (o ≡ 1 → ⊥) → has_right o ≡ false → {x : ℕ} → x ≡ max own l → x ≡ reach_by o own l r
-  one_reach h q g = rw (ne_eqb o 1 h, q) g
+    module _ {r : ℕ} (er : r ≡ right ws n) where
+      pub two_reach : (x ≡ Join) ⊎ (x ≡ Groupjoin) → {w : ℕ} → w ≡ max (max own (at l)) (at r) → w ≡ node_reach ws at n
+      two_reach t e = read_reach (e ∙ rw (el, er) (sym (two_by own (at (left ws n)) (at (right ws n)) t)))
 
-  -- a dependent join, whose right side reads outer columns
-  pub past_reach : o ≡ 8 → {x y : ℕ} → x ≡ max own l → y ≡ max x (r - 1) → y ≡ reach_by o own l r
-  past_reach e {x} {y} g k = let sum : y ≡ max (max own l) (pred r) = omega (arith, g, k) in rw e sum
-
-  -- or reads none
-  pub none_reach : o ≡ 8 → r ≤ 0 → {x : ℕ} → x ≡ max own l → x ≡ reach_by o own l r
-  none_reach e n {x} g = let sum : x ≡ max (max own l) (pred r) = omega (arith, g, n) in rw e sum
-
-  -- another node with two inputs
-  pub both_reach : (o ≡ 1 → ⊥) → has_right o ≡ true → (o ≡ 8 → ⊥) → {x y : ℕ} → x ≡ max own l → y ≡ max x r → y ≡ reach_by o own l r
-  both_reach h q e g k = rw (ne_eqb o 1 h, q, ne_eqb o 8 e) (omega (arith, g, k))
+      pub dependent_reach : x ≡ Dependent → {w : ℕ} → w ≡ max (max own (at l)) (pred (at r)) → w ≡ node_reach ws at n
+      dependent_reach t e = read_reach (e ∙ rw (el, er, t))
 
 -- ---- all nodes
 
@@ -374,24 +358,8 @@ pub reach_open : (cs : List Column) → ltb 0 (reach cs) ≡ not (is_empty cs)
 reach_open [] = refl
 reach_open (c ∷ cs) = lt-ltb 0 (reach (c ∷ cs)) (omega arith)
 
--- as the code reads node n's reach and uses
-module _ {ws : List ℕ} (uses reaches : List ℕ) (sized : Sized ws) (counted : Counted ws uses) (reached : Reaches ws reaches) (n : ℕ)
-    (h : n < nodes ws) {i : ℕ} (e : i ≡ n) where
-  -- the node is open where the table has a reach
-  open_is : not (is_empty (shape_at (widths_of ws) (nodes_of ws) n).reads) ≡ ltb 0 (get_or reaches i 0)
-  open_is = rw (e, reached n h) (sym (reach_open (shape_at (widths_of ws) (nodes_of ws) n).reads))
-
-  -- how often the table says it is used
-  uses_are : {j : ℕ} → j ≡ n → get_or uses j 0 ≡ uses_of ws n
-  uses_are q = rw q (counted n (omega (arith, (limited ws sized).nodes_few)))
-
-  -- a closed node
-  pub closed_node_lem : get_or reaches i 0 ≤ 0 → is_open_twice ws n ≡ false
-  closed_node_lem g = rw (open_is, le-ltb 0 (get_or reaches i 0) g)
-
-  module _ (g : 0 < get_or reaches i 0) {j : ℕ} (q : j ≡ n) where
-    pub open_twice : 1 < get_or uses j 0 → is_open_twice ws n ≡ true
-    open_twice t = rw (open_is, lt-ltb 0 (get_or reaches i 0) g) (lt-ltb 1 (uses_of ws n) (omega (arith, uses_are q)))
-
-    pub open_once : get_or uses j 0 ≤ 1 → is_open_twice ws n ≡ false
-    open_once t = rw (open_is, lt-ltb 0 (get_or reaches i 0) g) (le-ltb 1 (uses_of ws n) (omega (arith, uses_are q)))
+-- by node n's reach and uses
+pub open_twice_test : {ws : List ℕ} (uses reaches : List ℕ) → Sized ws → Counted ws uses → Reaches ws reaches → (n : ℕ) → n < nodes ws
+    → is_open_twice ws n ≡ (ltb 0 (get_or reaches n 0) && ltb 1 (get_or uses n 0))
+open_twice_test {ws} uses reaches sized counted reached n h =
+    rw (counted n (omega (arith, (limited ws sized).nodes_few)), reached n h, reach_open (shape_at (widths_of ws) (nodes_of ws) n).reads)

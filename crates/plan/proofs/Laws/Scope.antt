@@ -1,13 +1,14 @@
 -- The join around each node, and the rows that stand there.
 use mathlib.Core.Path.{◌≡◌, refl, sym, ap, ◌∙◌}
-use mathlib.Core.Bool.{Bool, true, false, cond, ◌&&◌, true≢false, and-false}
+use mathlib.Core.Bool.{Bool, true, false, not, cond, ◌&&◌, true≢false, and-false}
 use mathlib.Core.List.{List, [], ◌∷◌}
 use Prim.Native.Nat.{ℕ, zero, suc, ◌+◌, ◌-◌, ◌≤◌, ◌<◌}
 use native.Mathlib.Omega.{arith}
 use lib.Dec.{leb, ltb, eqb, leb-zero}
 use lib.ListN.{length, get_or, set, replicate, length-set, get_or-replicate}
 use lib.Seq.{get_or-set_same, get_or-set_other}
-use borrow.Author.Tests.{ltb-true, leb-true, leb-false, lt-ltb, le-ltb, le-leb, lt-leb, eqb-true, eqb-false, eq-eqb, ne_eqb}
+use borrow.Author.Tests.{ltb-true, leb-true, leb-false, lt-ltb, le-ltb, le-leb, lt-leb, eqb-true, eqb-false, ne_eqb}
+use Rattle.std.proofs.Common.{Option, Some, None}
 use Rattle.algebra.specs.Lists.{keep, any, upto, Every, done, more}
 use Rattle.algebra.specs.Plan.{inputs}
 use Rattle.algebra.specs.Columns.{shape_at}
@@ -18,8 +19,9 @@ use Rattle.algebra.proofs.Domains.Keys.{upto_below}
 use Rattle.plan.specs.Words.{nodes, operator, left, right}
 use Rattle.plan.specs.Plan.{node_at, widths_of, nodes_of}
 use Rattle.plan.specs.Verdict.{lowest, has_right, width_at, is_open, user_of, is_right_side, scope_of}
+use Rattle.plan.specs.Codes.{has_left}
 use Rattle.plan.specs.Promise.{Formed}
-use Rattle.plan.specs.Passes.{Reaches, Joins, InPlan}
+use Rattle.plan.specs.Passes.{Reaches, rows_from, Joins, InPlan, entered}
 use Rattle.plan.proofs.Laws.Loops.{lowest_found, lowest_none, lowest_passes, lowest_same}
 use Rattle.plan.proofs.Laws.Header.{refuted}
 use Rattle.plan.proofs.Laws.Formed.{limited, inputs_at, inputs_below}
@@ -78,65 +80,59 @@ none_from : (p u : ℕ) → p ≤ u → {is : List ℕ} → Every (λ j. j < p) 
 none_from p u h {is} t = sym (refuted (any (eqb u) is) (λ e. omega (arith, every_found {P = λ j. j < p} u t e)))
 
 -- what the table has for m, whose user is u
-unfoldable pub around : List ℕ → List ℕ → List ℕ → ℕ → ℕ → ℕ
-around ws reaches joins u m = cond (ltb 0 (get_or reaches m 0) && ltb u (nodes ws)) (cond (is_right_side ws u m) u (get_or joins u 0)) 256
+unfoldable pub around : List ℕ → List ℕ → List (Option ℕ) → ℕ → ℕ → Option ℕ
+around ws reaches joins u m = cond (ltb 0 (get_or reaches m 0) && ltb u (nodes ws)) (cond (is_right_side ws u m) (Some u) (get_or joins u None)) None
 
 -- the table, with the nodes from p on entered
-pub record Entered (ws reaches joins : List ℕ) (p : ℕ) : Type 0 where
+pub record Entered (ws reaches : List ℕ) (joins : List (Option ℕ)) (p : ℕ) : Type 0 where
   pub long : length joins ≡ 256
-  pub at : (m : ℕ) → m < nodes ws → get_or joins m 0 ≡ around ws reaches joins (user_from ws p m) m
+  pub at : (m : ℕ) → m < nodes ws → get_or joins m None ≡ around ws reaches joins (user_from ws p m) m
 
 module _ (ws reaches : List ℕ) (p : ℕ) where
-  -- the table once input i of node p is entered
-  unfoldable pub entered : ℕ → List ℕ → List ℕ
-  entered i joins = cond (ltb 0 (get_or reaches i 0)) (set joins i (cond (is_right_side ws p i) p (get_or joins p 0))) joins
-
-  -- and once all of some inputs are
-  unfoldable pub entered_all : List ℕ → List ℕ → List ℕ
+  -- the table once all of some inputs of node p are entered
+  unfoldable pub entered_all : List ℕ → List (Option ℕ) → List (Option ℕ)
   entered_all [] joins = joins
-  entered_all (i ∷ is) joins = entered_all is (entered i joins)
+  entered_all (i ∷ is) joins = entered_all is (entered ws reaches p i joins)
 
 module _ (ws reaches : List ℕ) (p : ℕ) where
   -- the table keeps its length
-  entered_long : (i : ℕ) (joins : List ℕ) → length (entered ws reaches p i joins) ≡ length joins
-  unfolding entered
+  entered_long : (i : ℕ) (joins : List (Option ℕ)) → length (entered ws reaches p i joins) ≡ length joins
   entered_long i joins = go (ltb 0 (get_or reaches i 0))
     where
-      go : (b : Bool) → length (cond b (set joins i (cond (is_right_side ws p i) p (get_or joins p 0))) joins) ≡ length joins
+      go : (b : Bool) → length (cond b (set joins i (cond (is_right_side ws p i) (Some p) (get_or joins p None))) joins) ≡ length joins
       go true = length-set joins i _
       go false = refl
 
   -- an entry once input i is entered
-  entered_at : (i m : ℕ) (joins : List ℕ) → i < length joins
-      → get_or (entered ws reaches p i joins) m 0 ≡ cond (eqb m i && ltb 0 (get_or reaches m 0)) (cond (is_right_side ws p m) p (get_or joins p 0)) (get_or joins m 0)
-  unfolding entered
+  entered_at : (i m : ℕ) (joins : List (Option ℕ)) → i < length joins
+      → get_or (entered ws reaches p i joins) m None ≡ cond (eqb m i && ltb 0 (get_or reaches m 0)) (cond (is_right_side ws p m) (Some p) (get_or joins p None)) (get_or joins m None)
   entered_at i m joins h = same (eqb m i) refl
     where
-      value : ℕ
-      value = cond (is_right_side ws p i) p (get_or joins p 0)
+      value : Option ℕ
+      value = cond (is_right_side ws p i) (Some p) (get_or joins p None)
 
-      here : (b : Bool) → get_or (cond b (set joins i value) joins) i 0 ≡ cond b value (get_or joins i 0)
-      here true = get_or-set_same joins i value 0 h
+      here : (b : Bool) → get_or (cond b (set joins i value) joins) i None ≡ cond b value (get_or joins i None)
+      here true = get_or-set_same joins i value None h
       here false = refl
 
-      away : (b : Bool) → (m ≡ i → ⊥) → get_or (cond b (set joins i value) joins) m 0 ≡ get_or joins m 0
-      away true n = get_or-set_other joins i m value 0 n
+      away : (b : Bool) → (m ≡ i → ⊥) → get_or (cond b (set joins i value) joins) m None ≡ get_or joins m None
+      away true n = get_or-set_other joins i m value None n
       away false n = refl
 
       same : (b : Bool) → eqb m i ≡ b
-          → get_or (cond (ltb 0 (get_or reaches i 0)) (set joins i value) joins) m 0
-          ≡ cond (b && ltb 0 (get_or reaches m 0)) (cond (is_right_side ws p m) p (get_or joins p 0)) (get_or joins m 0)
+          → get_or (cond (ltb 0 (get_or reaches i 0)) (set joins i value) joins) m None
+          ≡ cond (b && ltb 0 (get_or reaches m 0)) (cond (is_right_side ws p m) (Some p) (get_or joins p None)) (get_or joins m None)
       same true e = let q : m ≡ i = eqb-true m i e in rw q (here (ltb 0 (get_or reaches i 0)))
       same false e = away (ltb 0 (get_or reaches i 0)) (eqb-false m i e)
 
   -- the table keeps its length
-  all_long : (is joins : List ℕ) → length (entered_all ws reaches p is joins) ≡ length joins
+  all_long : (is : List ℕ) (joins : List (Option ℕ)) → length (entered_all ws reaches p is joins) ≡ length joins
   unfolding entered_all
   all_long [] joins = refl
   all_long (i ∷ is) joins = all_long is (entered ws reaches p i joins) ∙ entered_long i joins
 
   -- an input that is entered twice
-  glue : (a b read : Bool) (v x : ℕ) → cond (b && read) v (cond (a && read) v x) ≡ cond (cond a true b && read) v x
+  glue : (a b read : Bool) (v x : Option ℕ) → cond (b && read) v (cond (a && read) v x) ≡ cond (cond a true b && read) v x
   glue true true true v x = refl
   glue true true false v x = refl
   glue true false true v x = refl
@@ -144,24 +140,24 @@ module _ (ws reaches : List ℕ) (p : ℕ) where
   glue false b read v x = refl
 
   -- an entry once all inputs are entered
-  all_at : {is : List ℕ} → Every (λ j. j < p) is → (m : ℕ) (joins : List ℕ) → p < length joins
-      → get_or (entered_all ws reaches p is joins) m 0
-      ≡ cond (any (eqb m) is && ltb 0 (get_or reaches m 0)) (cond (is_right_side ws p m) p (get_or joins p 0)) (get_or joins m 0)
+  all_at : {is : List ℕ} → Every (λ j. j < p) is → (m : ℕ) (joins : List (Option ℕ)) → p < length joins
+      → get_or (entered_all ws reaches p is joins) m None
+      ≡ cond (any (eqb m) is && ltb 0 (get_or reaches m 0)) (cond (is_right_side ws p m) (Some p) (get_or joins p None)) (get_or joins m None)
   unfolding entered_all
   all_at done m joins h = refl
   all_at (more {x} {xs} g t) m joins h =
-      let kept : get_or (entered ws reaches p x joins) p 0 ≡ get_or joins p 0 = entered_at x p joins (omega arith) ∙ rw (ne_eqb p x (λ e. omega arith)) in
+      let kept : get_or (entered ws reaches p x joins) p None ≡ get_or joins p None = entered_at x p joins (omega arith) ∙ rw (ne_eqb p x (λ e. omega arith)) in
       all_at t m (entered ws reaches p x joins) (rw (entered_long x joins) h)
       ∙ rw (kept, entered_at x m joins (omega arith))
-      (glue (eqb m x) (any (eqb m) xs) (ltb 0 (get_or reaches m 0)) (cond (is_right_side ws p m) p (get_or joins p 0)) (get_or joins m 0))
+      (glue (eqb m x) (any (eqb m) xs) (ltb 0 (get_or reaches m 0)) (cond (is_right_side ws p m) (Some p) (get_or joins p None)) (get_or joins m None))
 
 module _ (ws reaches : List ℕ) (f : Formed ws) (p : ℕ) (h : p < nodes ws) where
   -- the table once node p is entered
-  entered_node : (joins : List ℕ) → Entered ws reaches joins (p + 1) → Entered ws reaches (entered_all ws reaches p (inputs (node_at ws p)) joins) p
+  entered_node : (joins : List (Option ℕ)) → Entered ws reaches joins (p + 1) → Entered ws reaches (entered_all ws reaches p (inputs (node_at ws p)) joins) p
   unfolding around
   entered_node joins e = record { long = all_long ws reaches p _ joins ∙ e.long; at = at }
     where
-      after : List ℕ
+      after : List (Option ℕ)
       after = entered_all ws reaches p (inputs (node_at ws p)) joins
 
       few : nodes ws ≤ 256
@@ -174,15 +170,15 @@ module _ (ws reaches : List ℕ) (f : Formed ws) (p : ℕ) (h : p < nodes ws) wh
       inside = omega (arith, few, e.long)
 
       -- what an entry is, and that those from p on are kept
-      is : (m : ℕ) → get_or after m 0 ≡ cond (takes (node_at ws) m p && ltb 0 (get_or reaches m 0)) (cond (is_right_side ws p m) p (get_or joins p 0)) (get_or joins m 0)
+      is : (m : ℕ) → get_or after m None ≡ cond (takes (node_at ws) m p && ltb 0 (get_or reaches m 0)) (cond (is_right_side ws p m) (Some p) (get_or joins p None)) (get_or joins m None)
       is m = all_at ws reaches p below m joins inside
 
-      kept : (u : ℕ) → p ≤ u → get_or after u 0 ≡ get_or joins u 0
+      kept : (u : ℕ) → p ≤ u → get_or after u None ≡ get_or joins u None
       kept u g = is u ∙ rw (none_from p u g below)
 
       mine : (m : ℕ) (read : Bool) → ltb 0 (get_or reaches m 0) ≡ read → m < nodes ws
-          → cond (true && read) (cond (is_right_side ws p m) p (get_or joins p 0)) (get_or joins m 0)
-          ≡ cond (read && ltb p (nodes ws)) (cond (is_right_side ws p m) p (get_or after p 0)) 256
+          → cond (true && read) (cond (is_right_side ws p m) (Some p) (get_or joins p None)) (get_or joins m None)
+          ≡ cond (read && ltb p (nodes ws)) (cond (is_right_side ws p m) (Some p) (get_or after p None)) None
       mine m true o l = rw (lt-ltb p (nodes ws) h, kept p (omega arith))
       mine m false o l = e.at m l ∙ rw o
 
@@ -190,140 +186,87 @@ module _ (ws reaches : List ℕ) (f : Formed ws) (p : ℕ) (h : p < nodes ws) wh
       others m u above = go (ltb u (nodes ws)) refl
         where
           go : (b : Bool) → ltb u (nodes ws) ≡ b
-              → cond (ltb 0 (get_or reaches m 0) && b) (cond (is_right_side ws u m) u (get_or joins u 0)) 256
-              ≡ cond (ltb 0 (get_or reaches m 0) && b) (cond (is_right_side ws u m) u (get_or after u 0)) 256
+              → cond (ltb 0 (get_or reaches m 0) && b) (cond (is_right_side ws u m) (Some u) (get_or joins u None)) None
+              ≡ cond (ltb 0 (get_or reaches m 0) && b) (cond (is_right_side ws u m) (Some u) (get_or after u None)) None
           go true t = rw (kept u (omega (arith, above (ltb-true u (nodes ws) t))))
           go false t = rw (and-false (ltb 0 (get_or reaches m 0)))
 
-      at : (m : ℕ) → m < nodes ws → get_or after m 0 ≡ around ws reaches after (user_from ws p m) m
+      at : (m : ℕ) → m < nodes ws → get_or after m None ≡ around ws reaches after (user_from ws p m) m
       at m l = go (takes (node_at ws) m p) refl
         where
-          go : (b : Bool) → takes (node_at ws) m p ≡ b → get_or after m 0 ≡ around ws reaches after (user_from ws p m) m
+          go : (b : Bool) → takes (node_at ws) m p ≡ b → get_or after m None ≡ around ws reaches after (user_from ws p m) m
           go true t = is m ∙ rw (t, user_here ws m p h t) (mine m (ltb 0 (get_or reaches m 0)) refl l)
           go false t =
               is m ∙ rw (t, user_next ws m p t) (e.at m l ∙ others m (user_from ws (p + 1) m) (user_from_lem ws m (p + 1)))
 
--- the join around input i of node p
-module _ (ws : List ℕ) (p i j o : ℕ) (e : o ≡ operator ws p) where
-  -- a dependent join whose right side it is
-  pub around_side : (r : ℕ) → o ≡ 8 → r ≡ right ws p → r ≡ i → p ≡ cond (is_right_side ws p i) p j
-  around_side r h d t = rw (eq-eqb (operator ws p) 8 (sym e ∙ h), eq-eqb (right ws p) i (sym d ∙ t))
-
-  -- another input of a node
-  pub around_left : (r : ℕ) → r ≡ right ws p → (r ≡ i → ⊥) → j ≡ cond (is_right_side ws p i) p j
-  around_left r d t = rw (ne_eqb (right ws p) i (λ q. t (d ∙ q)), and-false (eqb (operator ws p) 8))
-
-  -- an input of another operator
-  pub around_plain : (o ≡ 8 → ⊥) → j ≡ cond (is_right_side ws p i) p j
-  around_plain h = rw (ne_eqb (operator ws p) 8 (λ q. h (e ∙ q)))
-
 -- no node is entered yet
-pub joins_start : (ws reaches : List ℕ) (p : ℕ) → Formed ws → p ≡ nodes ws → Entered ws reaches (replicate 256 256) p
+pub joins_start : {ws : List ℕ} (reaches : List ℕ) {p : ℕ} → Formed ws → p ≡ nodes ws → Entered ws reaches (replicate 256 None) p
 unfolding around
-joins_start ws reaches p f e = record { long = refl; at = at }
+joins_start {ws} reaches {p} f e = record { long = refl; at = at }
   where
-    at : (m : ℕ) → m < nodes ws → get_or (replicate 256 256) m 0 ≡ around ws reaches (replicate 256 256) (user_from ws p m) m
+    at : (m : ℕ) → m < nodes ws → get_or (replicate 256 None) m None ≡ around ws reaches (replicate 256 None) (user_from ws p m) m
     at m l =
-        get_or-replicate 256 m 256 0 (omega (arith, (limited ws f.sized).nodes_few))
+        get_or-replicate 256 m None None (omega (arith, (limited ws f.sized).nodes_few))
         ∙ rw (e, user_none ws m, le-ltb (nodes ws) (nodes ws) (omega arith), and-false (ltb 0 (get_or reaches m 0)))
 
--- an input is entered where it is open
-module _ (ws reaches joins : List ℕ) (p : ℕ) {i w : ℕ} (e : w ≡ i) where
-  -- a closed input
-  pub enter_closed : get_or reaches w 0 ≤ 0 → joins ≡ entered ws reaches p i joins
-  unfolding entered
-  enter_closed h = rw (le-ltb 0 (get_or reaches i 0) (rw e at h))
-
-  -- an open one
-  pub enter_open : {v r : ℕ} → v ≡ i → 0 < get_or reaches w 0 → r ≡ cond (is_right_side ws p i) p (get_or joins p 0)
-      → set joins v r ≡ entered ws reaches p i joins
-  unfolding entered
-  enter_open d h q = rw (lt-ltb 0 (get_or reaches i 0) (rw e at h), d, q)
-
--- the table once the left input of node p is entered
-abbrev pub left_entered : List ℕ → List ℕ → ℕ → List ℕ → List ℕ
-left_entered ws reaches p joins = cond (eqb (operator ws p) 1) joins (entered ws reaches p (left ws p) joins)
-
-module _ (ws reaches joins : List ℕ) (p : ℕ) {o : ℕ} (q : o ≡ operator ws p) where
-  -- a scan has none
-  pub left_none : o ≡ 1 → joins ≡ left_entered ws reaches p joins
-  left_none e = rw (eq-eqb (operator ws p) 1 (sym q ∙ e))
-
-  -- another node has one
-  pub left_done : {after : List ℕ} {i : ℕ} → (o ≡ 1 → ⊥) → i ≡ left ws p → after ≡ entered ws reaches p i joins
-      → after ≡ left_entered ws reaches p joins
-  left_done n d e = rw (ne_eqb (operator ws p) 1 (λ t. n (q ∙ t)), sym d) e
-
-module _ {ws reaches joins : List ℕ} (f : Formed ws) {q : ℕ} (some : 0 < q) (h : q ≤ nodes ws) (e : Entered ws reaches joins q) where
-  -- the table once node q - 1 is entered
-  entered_before : {after : List ℕ} → after ≡ entered_all ws reaches (q - 1) (inputs (node_at ws (q - 1))) joins → Entered ws reaches after (q - 1)
-  entered_before d =
-      let s : q ≡ q - 1 + 1 = omega arith in
-      rw d (entered_node ws reaches f (q - 1) (omega arith) joins (rw (sym s) e))
-
-  -- node q - 1 has no right input
-  pub joins_left : {after : List ℕ} {o : ℕ} → o ≡ operator ws (q - 1) → has_right o ≡ false → after ≡ left_entered ws reaches (q - 1) joins
-      → Entered ws reaches after (q - 1)
+-- node p - 1 is entered with its left input and its right
+module _ {ws reaches : List ℕ} {joins before after : List (Option ℕ)} (f : Formed ws) {p : ℕ} (some : 0 < p) (h : p ≤ nodes ws)
+    (e : Entered ws reaches joins p) {u v : Bool} (lefts : u ≡ has_left (operator ws (p - 1))) (rights : v ≡ has_right (operator ws (p - 1)))
+    (b : before ≡ cond u (entered ws reaches (p - 1) (left ws (p - 1)) joins) joins) where
+  pub entered_step : after ≡ cond v (entered ws reaches (p - 1) (right ws (p - 1)) before) before → Entered ws reaches after (p - 1)
   unfolding entered_all
-  joins_left {o = o} d n l =
-      entered_before (l ∙ rw (inputs_at ws f (q - 1) (omega arith), sym d, n) (go (eqb o 1)))
+  entered_step a =
+      let s : p ≡ p - 1 + 1 = omega arith in
+      rw same (entered_node ws reaches f (p - 1) (omega arith) joins (rw (sym s) e))
     where
-      go : (b : Bool)
-          → cond b joins (entered ws reaches (q - 1) (left ws (q - 1)) joins) ≡ entered_all ws reaches (q - 1) (cond b [] (left ws (q - 1) ∷ [])) joins
-      go true = refl
-      go false = refl
+      l : List (Option ℕ)
+      l = entered ws reaches (p - 1) (left ws (p - 1)) joins
 
-  -- node q - 1 has one
-  pub joins_both : {before after : List ℕ} {o i : ℕ} → o ≡ operator ws (q - 1) → has_right o ≡ true → i ≡ right ws (q - 1)
-      → before ≡ left_entered ws reaches (q - 1) joins → after ≡ entered ws reaches (q - 1) i before → Entered ws reaches after (q - 1)
-  unfolding entered_all
-  joins_both {o = o} d n j l t =
-      entered_before (t ∙ rw (inputs_at ws f (q - 1) (omega arith), j, l, sym d, n) (go (eqb o 1) refl))
-    where
-      go : (b : Bool) → eqb o 1 ≡ b
-          → entered ws reaches (q - 1) (right ws (q - 1)) (cond b joins (entered ws reaches (q - 1) (left ws (q - 1)) joins))
-          ≡ entered_all ws reaches (q - 1) (cond b [] (left ws (q - 1) ∷ right ws (q - 1) ∷ [])) joins
-      go true s = absurd (true≢false (sym n ∙ rw (eqb-true o 1 s)))
-      go false s = refl
+      go : (x y : Bool) → eqb (operator ws (p - 1)) 1 ≡ x → has_right (operator ws (p - 1)) ≡ y
+          → cond y (entered ws reaches (p - 1) (right ws (p - 1)) (cond (not x) l joins)) (cond (not x) l joins)
+          ≡ entered_all ws reaches (p - 1) (cond x [] (cond y (left ws (p - 1) ∷ right ws (p - 1) ∷ []) (left ws (p - 1) ∷ []))) joins
+      go true true s t = absurd (true≢false (sym t ∙ rw (eqb-true (operator ws (p - 1)) 1 s)))
+      go true false s t = refl
+      go false true s t = refl
+      go false false s t = refl
 
--- every node is entered
-pub joins_all : {ws reaches joins : List ℕ} {p : ℕ} → p ≤ 0 → Entered ws reaches joins p → Entered ws reaches joins 0
-joins_all {p = p} h e = let q : p ≡ 0 = omega arith in rw q at e
+      same : after ≡ entered_all ws reaches (p - 1) (inputs (node_at ws (p - 1))) joins
+      same = a ∙ rw (b, lefts, rights, inputs_at ws f (p - 1) (omega arith)) (go (eqb (operator ws (p - 1)) 1) (has_right (operator ws (p - 1))) refl refl)
 
 -- ---- the rows around a node
 
-module _ {ws reaches joins : List ℕ} (f : Formed ws) (r : Reaches ws reaches) (e : Entered ws reaches joins 0) where
+module _ {ws reaches : List ℕ} {joins : List (Option ℕ)} (f : Formed ws) (r : Reaches ws reaches) (e : Entered ws reaches joins 0) where
   -- what the table has, by what the plan says
   rule : (m : ℕ) → m < nodes ws
-      → get_or joins m 0
-      ≡ cond (is_open ws m && ltb (user_of ws m) (nodes ws)) (cond (is_right_side ws (user_of ws m) m) (user_of ws m) (get_or joins (user_of ws m) 0)) 256
+      → get_or joins m None
+      ≡ cond (is_open ws m && ltb (user_of ws m) (nodes ws)) (cond (is_right_side ws (user_of ws m) m) (Some (user_of ws m)) (get_or joins (user_of ws m) None)) None
   unfolding around
   rule m l =
       e.at m l
       ∙ rw (user_first ws m, r m l, reach_open (shape_at (widths_of ws) (nodes_of ws) m).reads)
 
   -- an entry is a dependent join of the plan, by the number of nodes above
-  join_found : (k m : ℕ) → nodes ws ≤ m + k → m < nodes ws → get_or joins m 0 < 256 → (get_or joins m 0 < nodes ws) × (operator ws (get_or joins m 0) ≡ 8)
-  join_found zero m g l = absurd (omega arith)
-  join_found (suc k) m g l = go (is_open ws m && ltb u (nodes ws)) (is_right_side ws u m) refl refl (rule m l) (join_found k u)
+  join_found : (k m p : ℕ) → nodes ws ≤ m + k → m < nodes ws → get_or joins m None ≡ Some p → (p < nodes ws) × (operator ws p ≡ 8)
+  join_found zero m p g l = absurd (omega arith)
+  join_found (suc k) m p g l = go (is_open ws m && ltb u (nodes ws)) (is_right_side ws u m) refl refl (rule m l) (join_found k u p)
     where
       u : ℕ
       u = user_of ws m
 
-      go : (b c : Bool) → (is_open ws m && ltb u (nodes ws)) ≡ b → is_right_side ws u m ≡ c → get_or joins m 0 ≡ cond b (cond c u (get_or joins u 0)) 256
-          → (nodes ws ≤ u + k → u < nodes ws → get_or joins u 0 < 256 → (get_or joins u 0 < nodes ws) × (operator ws (get_or joins u 0) ≡ 8))
-          → get_or joins m 0 < 256 → (get_or joins m 0 < nodes ws) × (operator ws (get_or joins m 0) ≡ 8)
-      go true true s t q before =
-          rw q (λ h. (ltb-true u (nodes ws) (and_right (is_open ws m) _ s), eqb-true (operator ws u) 8 (and_left (eqb (operator ws u) 8) _ t)))
-      go true false s t q before =
+      go : (b c : Bool) → (is_open ws m && ltb u (nodes ws)) ≡ b → is_right_side ws u m ≡ c → get_or joins m None ≡ cond b (cond c (Some u) (get_or joins u None)) None
+          → (nodes ws ≤ u + k → u < nodes ws → get_or joins u None ≡ Some p → (p < nodes ws) × (operator ws p ≡ 8))
+          → get_or joins m None ≡ Some p → (p < nodes ws) × (operator ws p ≡ 8)
+      go true true s t q before found =
+          let same : u ≡ p = cc in
+          rw (sym same) (ltb-true u (nodes ws) (and_right (is_open ws m) _ s), eqb-true (operator ws u) 8 (and_left (eqb (operator ws u) 8) _ t))
+      go true false s t q before found =
           let n : u < nodes ws = ltb-true u (nodes ws) (and_right (is_open ws m) _ s) in
           let d : m < u = user_above ws f m n in
-          rw q (before (omega arith) n)
-      go false c s t q before = rw q (λ h. absurd (omega arith))
+          before (omega arith) n (sym q ∙ found)
+      go false c s t q before found = absurd (cc)
 
   -- what stands around a node is what stands at its join
-  stands : (k m : ℕ) → nodes ws ≤ m + k → m < nodes ws
-      → scope_of ws m ≡ cond (ltb (get_or joins m 0) 256) (width_at ws (left ws (get_or joins m 0)) ∷ scope_of ws (get_or joins m 0)) []
+  stands : (k m : ℕ) → nodes ws ≤ m + k → m < nodes ws → scope_of ws m ≡ rows_from ws (get_or joins m None)
   stands zero m g l = absurd (omega arith)
   stands (suc k) m g l =
       scope_once ws f m l
@@ -332,14 +275,10 @@ module _ {ws reaches joins : List ℕ} (f : Formed ws) (r : Reaches ws reaches) 
       u : ℕ
       u = user_of ws m
 
-      go : (b c : Bool) → (is_open ws m && ltb u (nodes ws)) ≡ b → get_or joins m 0 ≡ cond b (cond c u (get_or joins u 0)) 256
-          → (nodes ws ≤ u + k → u < nodes ws
-          → scope_of ws u ≡ cond (ltb (get_or joins u 0) 256) (width_at ws (left ws (get_or joins u 0)) ∷ scope_of ws (get_or joins u 0)) [])
-          → cond b (cond c (width_at ws (left ws u) ∷ scope_of ws u) (scope_of ws u)) []
-          ≡ cond (ltb (get_or joins m 0) 256) (width_at ws (left ws (get_or joins m 0)) ∷ scope_of ws (get_or joins m 0)) []
-      go true true s q before =
-          let n : u < nodes ws = ltb-true u (nodes ws) (and_right (is_open ws m) _ s) in
-          rw (q, lt-ltb u 256 (omega (arith, (limited ws f.sized).nodes_few)))
+      go : (b c : Bool) → (is_open ws m && ltb u (nodes ws)) ≡ b → get_or joins m None ≡ cond b (cond c (Some u) (get_or joins u None)) None
+          → (nodes ws ≤ u + k → u < nodes ws → scope_of ws u ≡ rows_from ws (get_or joins u None))
+          → cond b (cond c (width_at ws (left ws u) ∷ scope_of ws u) (scope_of ws u)) [] ≡ rows_from ws (get_or joins m None)
+      go true true s q before = rw q
       go true false s q before =
           let n : u < nodes ws = ltb-true u (nodes ws) (and_right (is_open ws m) _ s) in
           let d : m < u = user_above ws f m n in
@@ -348,4 +287,4 @@ module _ {ws reaches joins : List ℕ} (f : Formed ws) (r : Reaches ws reaches) 
 
   -- the whole table is the joins
   pub joins_end : Joins ws joins × InPlan ws joins
-  joins_end = (λ m l. stands (nodes ws) m (omega arith) l, λ m l. join_found (nodes ws) m (omega arith) l)
+  joins_end = (λ m l. stands (nodes ws) m (omega arith) l, λ m p l. join_found (nodes ws) m p (omega arith) l)

@@ -1,12 +1,14 @@
--- A word as a signed number, also in the code's arithmetic, and a term by its code.
-use mathlib.Core.Path.{◌≡◌, ap, sym, ◌∙◌}
-use Prim.Native.Nat.{ℕ, ◌-◌, ◌^◌, ◌<◌, ◌≤◌}
+-- A word as a signed number, and a term by its code.
+use mathlib.Core.Path.{◌≡◌, refl, sym, ◌∙◌}
+use mathlib.Core.Bool.{Bool, true, false}
+use Prim.Native.Nat.{ℕ, suc, ◌-◌, ◌^◌, ◌<◌, ◌≤◌}
 use native.Mathlib.Omega.{arith}
-use lib.IntN.{ℤ, pos, negsuc, ◌-ℤ◌}
-use mir.Syntax.{w64}
-use mir.Val.{SFits, to_z, of_z}
-use mir.ValLaws.{to_z_pos, to_z-of_z}
-use borrow.Author.Tests.{lt-ltb, le-ltb, ne_eqb}
+use lib.Dec.{ltb}
+use lib.IntN.{ℤ, pos, negsuc}
+use mir.Syntax.{w32}
+use mir.Val.{to_z}
+use mir.ValLaws.{to_z_pos, to_z-neg}
+use borrow.Author.Tests.{ltb-true, ltb-false, lt-ltb, le-ltb, ne_eqb}
 use Rattle.algebra.specs.Plan.{column, outer, constant, nothing}
 use Rattle.plan.specs.Words.{Three}
 use Rattle.plan.specs.Items.{signed, term_of}
@@ -20,20 +22,16 @@ pub signed_high : (x : ℕ) → 2 ^ 31 ≤ x → signed x ≡ negsuc (2 ^ 32 - 1
 unfolding signed
 signed_high x h = rw (le-ltb x (2 ^ 31) h)
 
--- the same in the code's arithmetic
-module _ (w : ℕ) where
-  pub read_low : w < 2147483648 → to_z w64 w ≡ signed w
-  read_low h = to_z_pos w64 w (omega arith) ∙ sym (signed_low w h)
-
-  -- 2^32 less, as a number
-  minus : w < 4294967296 → to_z w64 w -ℤ pos 4294967296 ≡ negsuc (4294967295 - w)
-  minus h = ap (λ (z : ℤ). z -ℤ pos 4294967296) (to_z_pos w64 w (omega arith)) ∙ simp (lt-ltb w 4294967296 h) (ap negsuc (omega arith))
-
-  pub high_fits : w < 4294967296 → SFits w64 (to_z w64 w -ℤ pos 4294967296)
-  high_fits h = rw (minus h) (record { sfits = omega arith })
-
-  pub read_high : 2147483648 ≤ w → w < 4294967296 → to_z w64 (of_z w64 (to_z w64 w -ℤ pos 4294967296)) ≡ signed w
-  read_high g h = to_z-of_z w64 _ (high_fits h) ∙ minus h ∙ sym (signed_high w g)
+-- the 32 bits read as a signed number
+pub read_signed : (w : ℕ) → w < 4294967296 → to_z w32 w ≡ signed w
+read_signed w h = go (ltb w 2147483648) refl
+  where
+    go : (b : Bool) → ltb w 2147483648 ≡ b → to_z w32 w ≡ signed w
+    go true e = let h : w < 2147483648 = ltb-true w 2147483648 e in to_z_pos w32 w h ∙ sym (signed_low w h)
+    go false e =
+        let g : 2147483648 ≤ w = ltb-false w 2147483648 e in
+        let back : 4294967296 - suc (4294967295 - w) ≡ w = omega arith in
+        (rw back at (to_z-neg w32 (4294967295 - w) (omega arith))) ∙ sym (signed_high w g)
 
 -- a term from its three words, by their code
 module _ (t : Three) where

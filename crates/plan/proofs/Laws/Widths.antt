@@ -1,8 +1,9 @@
 -- The widths of the nodes' rows.
 use mathlib.Core.Path.{◌≡◌, refl, sym, ap, ◌∙◌}
 use mathlib.Core.Bool.{Bool, true, false, not, cond}
+use mathlib.Core.Logic.{◌⊎◌, inl, inr}
 use mathlib.Core.List.{List, [], ◌∷◌}
-use Prim.Native.Nat.{ℕ, zero, suc, ◌+◌, ◌-◌, ◌≤◌, ◌<◌}
+use Prim.Native.Nat.{ℕ, suc, ◌+◌, ◌≤◌, ◌<◌}
 use native.Mathlib.Omega.{arith}
 use lib.ListN.{length, get_or, length-map}
 use borrow.Author.Tests.{ltb-false, lt-ltb, le-ltb}
@@ -15,13 +16,13 @@ use Rattle.algebra.proofs.Tables.Shapes.{shape_same}
 use Rattle.plan.specs.Words.{Item, tables, nodes, table_width, operator, left, right, kind, first_item, item_count, items_from, items_of}
 use Rattle.plan.specs.Items.{is_key, is_aggregate, position_of, keys_in, aggregates_in, key_right, aggregate_right}
 use Rattle.plan.specs.Plan.{node_for, node_at, kind_of, widths_of, nodes_of}
-use Rattle.plan.specs.Verdict.{has_right, items_right, width_at, is_too_wide}
+use Rattle.plan.specs.Verdict.{items_right, width_at, is_too_wide}
 use Rattle.plan.specs.Promise.{Formed}
 use Rattle.plan.specs.Passes.{ZeroFrom, Measured}
 use Rattle.plan.proofs.Laws.Loops.{lowest_none, lowest_not, lowest_found, lowest_end, none_more}
 use Rattle.plan.proofs.Laws.Numbered.{numbered_at}
 use Rattle.plan.proofs.Laws.Items.{items_length}
-use Rattle.plan.proofs.Laws.Formed.{by_operator, facts_at, inputs_below, shape_of_lem}
+use Rattle.plan.proofs.Laws.Formed.{facts_at, inputs_below, shape_of_lem}
 use Rattle.plan.proofs.Laws.Reach.{front_every}
 use Rattle.plan.proofs.Laws.Restored.{key_not_aggregate, aggregate_not_key}
 
@@ -32,25 +33,6 @@ join_narrow inner l r h g = omega arith
 join_narrow semi l r h g = omega arith
 join_narrow anti l r h g = omega arith
 join_narrow left_outer l r h g = omega arith
-
--- semi and anti rows are left's
-pub half_width : (k : ℕ) → 2 ≤ k → k ≤ 3 → (l r : ℕ) → l ≡ join_width (kind_of k) l r
-unfolding kind_of
-half_width zero g h l r = absurd (omega arith)
-half_width (suc zero) g h l r = absurd (omega arith)
-half_width (suc (suc zero)) g h l r = refl
-half_width (suc (suc (suc zero))) g h l r = refl
-half_width (suc (suc (suc (suc k)))) g h l r = absurd (omega arith)
-
--- the others are left's and right's
-pub whole_width : (k : ℕ) → (k ≡ 2 → ⊥) → (k ≡ 3 → ⊥) → (l r : ℕ) → l + r ≡ join_width (kind_of k) l r
-unfolding kind_of
-whole_width zero g h l r = refl
-whole_width (suc zero) g h l r = refl
-whole_width (suc (suc zero)) g h l r = absurd (g refl)
-whole_width (suc (suc (suc zero))) g h l r = absurd (h refl)
-whole_width (suc (suc (suc (suc zero)))) g h l r = refl
-whole_width (suc (suc (suc (suc (suc k))))) g h l r = let q : suc (suc (suc (suc (suc k)))) - 1 ≡ suc (suc (suc (suc k))) = omega arith in rw q
 
 -- ---- items
 
@@ -80,32 +62,7 @@ group_items xs e =
 
 -- ---- a node as the code reads it
 
--- none of the other operators: a join or a dependent join
-abbrev pub IsJoin : ℕ → Type 0
-IsJoin o = (o ≡ 1 → ⊥) × (o ≡ 2 → ⊥) × (o ≡ 3 → ⊥) × (o ≡ 4 → ⊥) × (o ≡ 6 → ⊥) × (o ≡ 7 → ⊥)
-
--- a property of the operators 5 and 8
-by_two : (P : ℕ → Type 0) → P 5 → P 8 → (o : ℕ) → 1 ≤ o → o ≤ 8 → IsJoin o → P o
-by_two P p5 p8 =
-    by_operator (λ o. IsJoin o → P o)
-    (λ t. absurd (t.0 refl))
-    (λ t. absurd (t.1 refl))
-    (λ t. absurd (t.2 refl))
-    (λ t. absurd (t.3 refl))
-    (λ t. p5)
-    (λ t. absurd (t.4 refl))
-    (λ t. absurd (t.5 refl))
-    (λ t. p8)
-
 module _ (ws : List ℕ) (f : Formed ws) (n : ℕ) (h : n < nodes ws) {o : ℕ} (eo : o ≡ operator ws n) where
-  -- the same of the operator of node n
-  by_joins : (P : ℕ → Type 0) → P 5 → P 8 → IsJoin o → P (operator ws n)
-  by_joins P p5 p8 t = by_two P p5 p8 (operator ws n) (facts_at ws f n h).low (facts_at ws f n h).high (rw eo at t)
-
-  -- a join has a right input
-  pub join_right : IsJoin o → has_right o ≡ true
-  join_right t = rw eo (by_joins (λ o. has_right o ≡ true) refl refl t)
-
   module _ (at : ℕ → ℕ) {l : ℕ} (el : l ≡ left ws n) where
     pub scan_width : o ≡ 1 → {w : ℕ} → w ≡ table_width ws l → w ≡ width_of (widths_of ws) at (node_at ws n)
     unfolding node_for
@@ -113,41 +70,35 @@ module _ (ws : List ℕ) (f : Formed ws) (n : ℕ) (h : n < nodes ws) {o : ℕ} 
         let width = numbered_at (table_width ws) (tables ws) (left ws n) 0 ((facts_at ws f n h).left_table (sym eo ∙ e)) in
         rw (sym eo ∙ e) (g ∙ ap (table_width ws) el ∙ sym width)
 
-    module _ {i : ℕ} (ei : i ≡ l) where
-      pub select_width : o ≡ 2 → at i ≡ width_of (widths_of ws) at (node_at ws n)
-      unfolding node_for
-      select_width e = rw (sym eo ∙ e) (ap at (ei ∙ el))
+    pub select_width : o ≡ 2 → at l ≡ width_of (widths_of ws) at (node_at ws n)
+    unfolding node_for
+    select_width e = rw (sym eo ∙ e) (ap at el)
 
-      pub compute_width : o ≡ 3 → at i + 1 ≡ width_of (widths_of ws) at (node_at ws n)
-      unfolding node_for
-      compute_width e = rw (sym eo ∙ e, ei ∙ el)
+    pub compute_width : o ≡ 3 → at l + 1 ≡ width_of (widths_of ws) at (node_at ws n)
+    unfolding node_for
+    compute_width e = rw (sym eo ∙ e, el)
 
-      pub groupjoin_width : o ≡ 7 → {a m c : ℕ} → a ≡ first_item ws n → m ≡ item_count ws n → c ≡ length (keep is_aggregate (items_from ws a m))
-          → at i + c ≡ width_of (widths_of ws) at (node_at ws n)
-      unfolding node_for
-      groupjoin_width e ea em ec = rw (sym eo ∙ e, ei ∙ el, ec, ea, em) (simp length-map)
+    pub groupjoin_width : o ≡ 7 → {a m c : ℕ} → a ≡ first_item ws n → m ≡ item_count ws n → c ≡ length (keep is_aggregate (items_from ws a m))
+        → at l + c ≡ width_of (widths_of ws) at (node_at ws n)
+    unfolding node_for
+    groupjoin_width e ea em ec = rw (sym eo ∙ e, el, ec, ea, em) (simp length-map)
 
-      pub join_width_lem : IsJoin o → {k r j w : ℕ} → k ≡ kind ws n → r ≡ right ws n → j ≡ r → w ≡ join_width (kind_of k) (at i) (at j)
-          → w ≡ width_of (widths_of ws) at (node_at ws n)
-      unfolding node_for
-      join_width_lem t ek er ej ew =
-          (rw (ek, ei ∙ el, ej ∙ er) at ew)
-          ∙ by_joins
-          (λ o. join_width (kind_of (kind ws n)) (at (left ws n)) (at (right ws n))
-          ≡ width_of (widths_of ws) at (node_for o (left ws n) (right ws n) (kind_of (kind ws n)) (items_of ws n))) refl refl t
+    pub join_width_lem : (o ≡ 5) ⊎ (o ≡ 8) → {k : Kind} {r w : ℕ} → k ≡ kind_of (kind ws n) → r ≡ right ws n → w ≡ join_width k (at l) (at r)
+        → w ≡ width_of (widths_of ws) at (node_at ws n)
+    unfolding node_for
+    join_width_lem (inl e) ek er ew = rw (ek, el, er) at ew ∙ rw (sym eo ∙ e)
+    join_width_lem (inr e) ek er ew = rw (ek, el, er) at ew ∙ rw (sym eo ∙ e)
 
   module _ (at : ℕ → ℕ) {m : ℕ} (em : m ≡ item_count ws n) where
     -- a node has as many items as its count says
     items_long : length (items_of ws n) ≡ m
     items_long = items_length ws (first_item ws n) (item_count ws n) ∙ sym em
 
-    pub project_width : o ≡ 4 → m ≡ width_of (widths_of ws) at (node_at ws n)
+    -- a projection's row and a group's have a column for each item
+    pub listed_width : (o ≡ 4) ⊎ (o ≡ 6) → m ≡ width_of (widths_of ws) at (node_at ws n)
     unfolding node_for
-    project_width e = rw (sym eo ∙ e) (sym (length-map (items_of ws n) position_of ∙ items_long))
-
-    pub group_width : o ≡ 6 → m ≡ width_of (widths_of ws) at (node_at ws n)
-    unfolding node_for
-    group_width e = rw (sym eo ∙ e) (sym (group_items (items_of ws n) (rw (sym eo ∙ e) at (facts_at ws f n h).sorts) ∙ items_long))
+    listed_width (inl e) = rw (sym eo ∙ e) (sym (length-map (items_of ws n) position_of ∙ items_long))
+    listed_width (inr e) = rw (sym eo ∙ e) (sym (group_items (items_of ws n) (rw (sym eo ∙ e) at (facts_at ws f n h).sorts) ∙ items_long))
 
 -- ---- all nodes
 

@@ -29,13 +29,15 @@ use Rattle.plan.proofs.Laws.Header.{header_says}
 use Rattle.plan.proofs.Laws.Loops.{all_of}
 use Rattle.plan.proofs.Laws.Numbered.{every_all, numbered, numbered_length}
 use Rattle.plan.proofs.Laws.Words.{word_read}
-use Rattle.pages.specs.declared.page.Cursor.{Cursor}
-use Rattle.rewrite.specs.declared.Rewritten.TheVariants.{Words, Refused, OverLimits, NoRoom}
+use Rattle.pages.specs.declared.page.Page.{Page}
+use Rattle.rewrite.specs.declared.RewriteRefusal.TheVariants.{Plan, OverLimits, NoRoom}
+use Rattle.rewrite.specs.declared.RewriteRefusal.{RewriteRefusal}
+use Rattle.std.specs.Prelude.{Result, Ok, Err, IsErrAnd}
 use Rattle.rewrite.specs.Numbers.{rewriting_of}
 use Rattle.rewrite.specs.Answer.{within_limits, new_plan, new_words, refusal, rewriting, output_after}
 use Rattle.plan.specs.Words.{total}
 use Rattle.pages.specs.Output.{table}
-use Rattle.pages.specs.Pages.{Fits, Holds, Finished}
+use Rattle.pages.specs.Pages.{Fits, Holds}
 use Rattle.pages.proofs.Laws.Pages.{shape_past}
 
 -- ---- the limits
@@ -85,13 +87,14 @@ widths_there ws h =
     (numbered (table_width ws) (take t (drop 8 ws)) 0
     (λ i l. sym (get_or-take t (drop 8 ws) i 0 (omega arith) ∙ get_or-drop 8 ws i 0 ∙ word_read ws (8 + i))))
 
--- what the arrays hold are the words of the plan
-table_words : (ws widths nodes items rows : List ℕ) (c : Cursor) (ns : List Node) → take (tables ws) (drop 8 ws) ≡ widths → tables ws ≡ length widths
-    → Holds widths nodes items rows c ns [] → table ws c.nodes c.items nodes items ≡ words_of widths ns
+-- what the page holds are the words of the plan
+table_words : (ws widths : List ℕ) (page : Page) (ns : List Node) → take (tables ws) (drop 8 ws) ≡ widths → tables ws ≡ length widths
+    → Holds widths page ns [] → table ws page ≡ words_of widths ns
 unfolding table words_of
-table_words ws widths nodes items rows c ns front t q =
-    let i : c.items ≡ length (all_items ns) = q.listed ∙ add-zero _ in
-    let listed : take (7 * c.items) items ≡ each (λ w. w) (all_items ns) = q.items_are ∙ ap (each (λ w. w)) (append-nil (all_items ns)) in
+table_words ws widths page ns front t q =
+    let i : page.item_count ≡ length (all_items ns) = q.listed ∙ add-zero _ in
+    let listed : each (λ w. w) (take page.item_count page.items) ≡ each (λ w. w) (all_items ns) =
+    ap (each (λ w. w)) (q.items_are ∙ append-nil (all_items ns)) in
     λ j. (8 + t j + 6 * q.count j + 7 * i j) ∷ t j ∷ 8 ∷ q.count j ∷ (8 + t j) ∷ i j ∷ (8 + t j + 6 * q.count j) ∷ 0
     ∷ (front j ++ (q.nodes_are j ++ listed j))
 
@@ -103,9 +106,14 @@ refused : (ws out : List ℕ) (k n : ℕ) → (k ≡ 0 → ⊥) → refusal ws (
 unfolding rewriting output_after
 refused ws out k n h q = (rw (q, ne_eqb k 0 h), rw (q, ne_eqb k 0 h))
 
+-- an error that a `?` hands on
+pub err_is : (r : Result ℕ RewriteRefusal) (x : RewriteRefusal) → IsErrAnd r (λ e. e ≡ x) → r ≡ Err x
+err_is (Ok n) x h = absurd h
+err_is (Err e) x h = ap Err h
+
 -- refusals 1 to 7
 pub refused_first : (ws out : List ℕ) (r : Refusal) → refusal_of r ≡ verdict ws
-    → (rewriting_of (Refused r) ≡ rewriting ws (length out)) × (out ≡ output_after ws out)
+    → (rewriting_of (Err (Plan r)) ≡ rewriting ws (length out)) × (out ≡ output_after ws out)
 unfolding refusal
 refused_first ws out r e = refused ws out (refusal_of r).number (refusal_of r).node (some r) (rw (sym e, ne_eqb (refusal_of r).number 0 (some r)))
   where
@@ -119,32 +127,30 @@ refused_first ws out r e = refused ws out (refusal_of r).number (refusal_of r).n
     some (NoColumn n) q = omega arith
 
 -- an accepted plan that was rewritten
-module _ (ws nodes items : List ℕ) (c : Cursor) (e : verdict ws ≡ accepted) (p : Finished (widths_of ws) (new_plan ws) nodes items c) where
+module _ (ws : List ℕ) (e : verdict ws ≡ accepted) where
   -- it was too much
-  pub refused_over : (out : List ℕ) → c.ok ≡ false → (rewriting_of OverLimits ≡ rewriting ws (length out)) × (out ≡ output_after ws out)
+  pub refused_over : (out : List ℕ) → (Fits (widths_of ws) (new_plan ws) [] → ⊥)
+      → (rewriting_of (Err OverLimits) ≡ rewriting ws (length out)) × (out ≡ output_after ws out)
   unfolding refusal
-  refused_over out bad = refused ws out 8 0 (λ q. omega arith) (rw (e, over_limits (widths_of ws) (new_plan ws) (p.1.over bad)))
+  refused_over out bad = refused ws out 8 0 (λ q. omega arith) (rw (e, over_limits (widths_of ws) (new_plan ws) bad))
 
-  module _ (ok : c.ok ≡ true) where
-    holds : Holds (widths_of ws) nodes items p.0 c (new_plan ws) []
-    holds = p.1.holds ok
-
+  module _ (page : Page) (holds : Holds (widths_of ws) page (new_plan ws) []) where
     within : within_limits (widths_of ws) (new_plan ws) ≡ true
     within = fits_within (widths_of ws) (new_plan ws) holds.fits
 
     -- there are not too many words for the code
-    pub few_words : (8 + tables ws ≤ length ws) × (tables ws ≤ 16) × (c.nodes ≤ 256) × (c.items ≤ 2000)
+    pub few_words : (8 + tables ws ≤ length ws) × (tables ws ≤ 16) × (page.node_count ≤ 256) × (page.item_count ≤ 2000)
     few_words =
         let sized = (promise ws e).formed.sized in
         let header = header_says ws sized.header in
         (omega arith, (limited ws sized).tables_few, omega (arith, holds.count, holds.fits.nodes), omega (arith, holds.listed, holds.fits.items))
 
-    words : table ws c.nodes c.items nodes items ≡ new_words ws
+    words : table ws page ≡ new_words ws
     words =
-        table_words ws (widths_of ws) nodes items p.0 c (new_plan ws) (sym (widths_there ws few_words.0))
+        table_words ws (widths_of ws) page (new_plan ws) (sym (widths_there ws few_words.0))
         (sym (numbered_length (table_width ws) (tables ws))) holds
 
-    module _ (count : ℕ) (is : count ≡ total (tables ws) c.nodes c.items) where
+    module _ (count : ℕ) (is : count ≡ total (tables ws) page.node_count page.item_count) where
       -- they are as many as the new plan has
       words_count : count ≡ length (new_words ws)
       words_count =
@@ -152,14 +158,14 @@ module _ (ws nodes items : List ℕ) (c : Cursor) (e : verdict ws ≡ accepted) 
           ∙ sym (length_of (widths_of ws) (new_plan ws))
 
       -- there is no room
-      pub refused_room : (out : List ℕ) → length out < count → (rewriting_of NoRoom ≡ rewriting ws (length out)) × (out ≡ output_after ws out)
+      pub refused_room : (out : List ℕ) → length out < count → (rewriting_of (Err NoRoom) ≡ rewriting ws (length out)) × (out ≡ output_after ws out)
       unfolding refusal
       refused_room out h = refused ws out 9 0 (λ q. omega arith) (rw (e, within, lt-ltb (length out) (length (new_words ws)) (rw words_count at h)))
 
       -- they are written
       pub written : (answered : ℕ) → answered ≡ count → (out out' : List ℕ) → count ≤ length out
-          → out' ≡ table ws c.nodes c.items nodes items ++ drop (total (tables ws) c.nodes c.items) out
-          → (rewriting_of (Words answered) ≡ rewriting ws (length out)) × (out' ≡ output_after ws out)
+          → out' ≡ table ws page ++ drop (total (tables ws) page.node_count page.item_count) out
+          → (rewriting_of (Ok answered) ≡ rewriting ws (length out)) × (out' ≡ output_after ws out)
       unfolding refusal rewriting output_after
       written answered same out out' h q =
           let room : ltb (length out) (length (new_words ws)) ≡ false = le-ltb (length out) (length (new_words ws)) (rw words_count at h) in

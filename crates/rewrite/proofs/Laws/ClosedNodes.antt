@@ -1,27 +1,28 @@
 -- A closed node: its nodes go behind what is there, the last is its copy, and what is over a limit stays over.
-use mathlib.Core.Path.{◌≡◌, refl, sym, ap, ◌∙◌}
-use mathlib.Core.Bool.{Bool, true, false, cond, true≢false}
-use mathlib.Core.List.{List, [], ◌∷◌, ◌++◌, map}
-use Prim.Native.Nat.{ℕ, suc, pred, ◌<◌, ◌≤◌}
+use mathlib.Core.Path.{◌≡◌, refl, ap, ◌∙◌}
+use mathlib.Core.Bool.{Bool, true, false, cond}
+use mathlib.Core.List.{List, [], ◌∷◌, ◌++◌}
+use Prim.Native.Nat.{ℕ, suc, ◌<◌, ◌≤◌}
 use native.Mathlib.Nat.{add-zero}
 use native.Mathlib.Omega.{arith}
-use lib.ListN.{length, get_or, length-append, length-map}
-use Rattle.algebra.specs.Lists.{upto}
+use lib.ListN.{length, get_or, length-append}
 use Rattle.algebra.specs.Plan.{Kind, inner, semi, anti, left_outer, Node, scan, select, compute, project, join, group, groupjoin, dependent}
 use Rattle.algebra.specs.Columns.{Column, Shape, closed, shape_at, shape_of, shapeless}
 use Rattle.algebra.specs.Domains.{Domain, domain_keys, inner_domain, outside}
 use Rattle.algebra.specs.Rewriting.{Piece, Placed, closed_node, dropping, emit, unnest}
 use Rattle.algebra.proofs.Lists.Entries.{entry_last}
 use Rattle.algebra.proofs.Tables.Tidy.{closed_every}
-use Rattle.algebra.proofs.Columns.Picked.{length_upto}
 use Rattle.plan.specs.Words.{Item, nodes, operator, left, right, kind, items_of}
 use Rattle.plan.specs.Plan.{kind_of, node_for, node_at, widths_of, nodes_of}
 use Rattle.plan.specs.Verdict.{width_at}
 use Rattle.plan.specs.Promise.{Accepted}
 use Rattle.plan.proofs.Laws.Formed.{NodeFacts, by_operator, facts_at, dependent_left, dependent_right}
 use Rattle.pages.specs.declared.domain.Domain as code
-use Rattle.pages.specs.declared.page.Cursor.{Cursor}
-use Rattle.pages.specs.Pages.{Fits, Page, Grows, GrowsOver, copy_of, sheet}
+use Rattle.pages.specs.declared.page.OverLimits.{OverLimits}
+use Rattle.pages.specs.declared.page.Page.{Page}
+use Rattle.pages.specs.declared.sets.ColumnSet.{ColumnSet}
+use Rattle.pages.specs.Pages.{Grows, GrowsOver, Holds, Leaves, copy_of}
+use Rattle.pages.specs.declared.sets.ColumnSet.{ColumnSet}
 use Rattle.pages.specs.Sets.{members}
 use Rattle.pages.specs.Domains.{Means}
 use Rattle.rules.specs.Reads.{KeySet, ReadsTable, reads_at}
@@ -29,31 +30,12 @@ use Rattle.rules.specs.Under.{Puts, Ready, Within, put, with_inner}
 use Rattle.rewrite.specs.Closing.{Closes, Copies, closing}
 use Rattle.rules.proofs.Laws.InputReads.{inner_within, spotted}
 use Rattle.rules.proofs.Laws.StandingNodes.{stands_more}
-use Rattle.pages.proofs.Laws.Pages.{fits_front}
-use Rattle.rules.proofs.Laws.UnderDomain.{inner_extends, last_is, page_over, page_then}
+use Rattle.pages.proofs.Laws.Pages.{over}
+use Rattle.rules.proofs.Laws.RulePages.{over_more}
+use Rattle.rules.proofs.Laws.UnderDomain.{inner_extends, last_is}
+use Rattle.std.specs.Prelude.{Result, Ok, Err, IsErr}
 use Rattle.rules.proofs.Laws.AppendedNodes.{AtEnd, Extends, emit_end, extends_none, extends_one, extends_then}
 use Rattle.rules.proofs.Laws.Fuel.{own, put_behind, put_end}
-
--- ---- what is over a limit stays over
-
--- more nodes than there may be
-many : List Node
-many = map scan (upto 257)
-
-many_over : (widths : List ℕ) → Fits widths many [] → ⊥
-unfolding many
-many_over widths f = omega (arith, f.nodes, length-map (upto 257) scan ∙ length_upto 257)
-
-pub over_stays : {widths nodes nodes' items items' rows rows' : List ℕ} {c d : Cursor} (f : List Node → List Node)
-    → ((out : List Node) → Extends out (f out)) → GrowsOver widths (sheet nodes items rows c) (sheet nodes' items' rows' d) f → c.ok ≡ false → d.ok ≡ false
-over_stays {widths} {nodes} {nodes'} {items} {items'} {rows} {rows'} {c} {d} f b g e = go d.ok refl
-  where
-    page : Page widths nodes items rows c many []
-    page = record { holds = λ t. absurd (true≢false (sym t ∙ e)); over = λ t h. many_over widths h }
-
-    go : (t : Bool) → d.ok ≡ t → t ≡ false
-    go true t = absurd (many_over widths (fits_front widths many (b many).rest (rw (b many).is at ((g many page).holds t).fits)))
-    go false t = refl
 
 -- ---- a closed node
 
@@ -130,15 +112,10 @@ module _ {ws : List ℕ} (a : Accepted ws) {n : ℕ} (h : n < nodes ws) where
   shape i = shape_at (widths_of ws) (nodes_of ws) i
 
   -- as a copy
-  pub copy_closes : {nodes₀ nodes₁ items₀ items₁ rows₀ rows₁ images : List ℕ} {c d : Cursor} (x : Node)
-      → (operator ws n ≡ 8 → closed (shape (right ws n)) ≡ true)
-      → GrowsOver (widths_of ws) (sheet nodes₀ items₀ rows₀ c) (sheet nodes₁ items₁ rows₁ d) (λ out. out ++ (copy_of (λ i. get_or images i 0) x ∷ []))
-      → x ≡ node_at ws n
-      → Closes ws images n (sheet nodes₀ items₀ rows₀ c) (sheet nodes₁ items₁ rows₁ d)
-  copy_closes {images} x e g q = record {
-    written = λ out copies page. rw (copied out, ← q) (g out page);
-    stays = over_stays (λ out. out ++ (copy_of (λ i. get_or images i 0) x ∷ [])) (λ out. extends_one out _) g;
-  }
+  pub copy_closes : {images : List ℕ} {p q : Page} {result : Result ℕ OverLimits} → (operator ws n ≡ 8 → closed (shape (right ws n)) ≡ true)
+      → GrowsOver (widths_of ws) p q result (λ out. out ++ (copy_of (λ i. get_or images i 0) (node_at ws n) ∷ []))
+      → Closes ws images n p q result
+  copy_closes {images} e g = record { written = λ out copies page. rw (copied out) (g.written out page) }
     where
       copied : (out : List Node) → closing ws (λ i. get_or images i 0) n out ≡ emit (copy_of (λ i. get_or images i 0) (node_at ws n)) out
       copied out =
@@ -161,7 +138,7 @@ module _ {ws : List ℕ} (a : Accepted ws) {n : ℕ} (h : n < nodes ws) where
     reads = reads_at ws (right ws n)
 
     -- the keys of its domain
-    pub keys_are : {d : code.Domain} (table : List ℕ) (set : ℕ) {r : ℕ} → Means d outside → ReadsTable ws (nodes ws) table → r ≡ right ws n
+    pub keys_are : {d : code.Domain} (table : List (List ColumnSet)) (set : ColumnSet) {r : ℕ} → Means d outside → ReadsTable ws (nodes ws) table → r ≡ right ws n
         → KeySet d r table set → members set ≡ domain_keys outside w reads
     keys_are table set m read er keyed =
         keyed ws outside w m (λ i l p g. read i l p (omega (arith, right_low eight)))
@@ -198,64 +175,61 @@ module _ {ws : List ℕ} (a : Accepted ws) {n : ℕ} (h : n < nodes ws) where
       front_behind out =
           extends_then (put_behind ws (λ j. get_or images j 0) (suc (right ws n)) (right ws n) _ (front out)) (under_behind out)
 
-      module _ {nodes₀ nodes₁ items₀ items₁ rows₀ rows₁ : List ℕ} {c g : Cursor} {i : ℕ} (ei : i ≡ at)
-          (domain : Grows (sheet nodes₀ items₀ rows₀ c) (sheet nodes₁ items₁ rows₁ g) (λ out. out ++ (group ks [] i ∷ []))) where
+      module _ {i : ℕ} (ei : i ≡ at) (p₀ p₁ : Page) where
         -- the domain is written
-        domained : GrowsOver (widths_of ws) (sheet nodes₀ items₀ rows₀ c) (sheet nodes₁ items₁ rows₁ g) front
-        domained out page = rw ei at (domain (widths_of ws) out page)
+        domained : (result : Result ℕ OverLimits) → Grows p₀ p₁ result (λ out. out ++ (group ks [] i ∷ [])) → (out : List Node)
+            → Holds (widths_of ws) p₀ out [] → Leaves (widths_of ws) p₁ (front out) result
+        domained result domain out page = rw ei at (domain.written (widths_of ws) out page)
 
-        -- the domain is over a limit
-        pub domain_over : g.ok ≡ false → Closes ws images n (sheet nodes₀ items₀ rows₀ c) (sheet nodes₁ items₁ rows₁ g)
-        domain_over e = record {
-          written = λ out copies page. page_over e (front_behind out) (domained out page);
-          stays = λ t. e;
+        -- it is too much
+        pub domain_over : {x : OverLimits} → Grows p₀ p₁ (Err x) (λ out. out ++ (group ks [] i ∷ [])) → (q : Page) (result : Result ℕ OverLimits)
+            → IsErr result → Closes ws images n p₀ q result
+        domain_over {x} domain q result e = record {
+          written = λ out copies page. over (widths_of ws) q _ result e (over_more (front_behind out) (domained (Err x) domain out page));
         }
 
-        -- the right side is put under it, and the join written
-        module _ {nodes₂ nodes₃ items₂ items₃ rows₂ rows₃ : List ℕ} {y z : Cursor} {d : code.Domain} (ok : g.ok ≡ true)
-            {node : ℕ} (en : node ≡ pred g.nodes) (means : Means d (inner_domain outside w reads node))
-            {r : ℕ} (er : r ≡ right ws n) (putting : Puts ws images r d (sheet nodes₁ items₁ rows₁ g) (sheet nodes₂ items₂ rows₂ y))
-            {wl wr j : ℕ} (el : wl ≡ w) (ew : wr ≡ width_at ws (right ws n)) (ej : j ≡ pred y.nodes)
-            (joining : Grows (sheet nodes₂ items₂ rows₂ y) (sheet nodes₃ items₃ rows₃ z) (with_inner outside ks wl wr i j (node_at ws n))) where
-          module _ (out : List Node) (copies : Copies ws (λ k. get_or images k 0) n out)
-              (page : Page (widths_of ws) nodes₀ items₀ rows₀ c out []) where
-            placed : Page (widths_of ws) nodes₁ items₁ rows₁ g (front out) []
-            placed = domained out page
+        -- the right side is put under it
+        module _ {node : ℕ} (domain : Grows p₀ p₁ (Ok node) (λ out. out ++ (group ks [] i ∷ []))) {d : code.Domain}
+            (means : Means d (inner_domain outside w reads node)) {r : ℕ} (er : r ≡ right ws n) (p₂ : Page) where
+          put_leaves : (result : Result ℕ OverLimits) → Puts ws images r d p₁ p₂ result → (out : List Node) → Copies ws (λ k. get_or images k 0) n out
+              → Holds (widths_of ws) p₀ out [] → Leaves (widths_of ws) p₂ (under out).out result
+          put_leaves result putting out copies page =
+              (rw er at putting).written (inner_domain outside w reads (length out)) (front out) (rw last at means)
+              (inner_within ws a n h outside within eight (length out)) ready placed.0
+            where
+              placed : Leaves (widths_of ws) p₁ (front out) (Ok node)
+              placed = domained (Ok node) domain out page
 
-            last : node ≡ length out
-            last = omega (arith, (placed.holds ok).count, length-append out (group ks [] at ∷ []))
+              last : node ≡ length out
+              last = omega (arith, placed.1, length-append out (group ks [] at ∷ []))
 
-            ready : Ready ws (λ k. get_or images k 0) (right ws n) (inner_domain outside w reads (length out)) (front out)
-            ready = record {
-              domain = record {
-                inside = rw length-append (omega arith);
-                width = ap (λ (s : Shape). s.width) (entry_last shapeless (shape_of (widths_of ws)) out (group ks [] at))
-                    ∙ add-zero (length ks)
-                    ∙ ap length keys;
-              };
-              copies = λ k l e. stands_more (extends_one out _) (copies k (omega (arith, right_low eight)) e);
-            }
+              ready : Ready ws (λ k. get_or images k 0) (right ws n) (inner_domain outside w reads (length out)) (front out)
+              ready = record {
+                domain = record {
+                  inside = rw length-append (omega arith);
+                  width = ap (λ (s : Shape). s.width) (entry_last shapeless (shape_of (widths_of ws)) out (group ks [] at))
+                      ∙ add-zero (length ks)
+                      ∙ ap length keys;
+                };
+                copies = λ k l e. stands_more (extends_one out _) (copies k (omega (arith, right_low eight)) e);
+              }
 
-            put_page : Page (widths_of ws) nodes₂ items₂ rows₂ y (under out).out []
-            put_page =
-                let p : Puts ws images (right ws n) d (sheet nodes₁ items₁ rows₁ g) (sheet nodes₂ items₂ rows₂ y) = rw er at putting in
-                p.written (inner_domain outside w reads (length out)) (front out) (rw last at means)
-                (inner_within ws a n h outside within eight (length out)) ready placed
+          -- it is too much
+          pub put_over : {x : OverLimits} → Puts ws images r d p₁ p₂ (Err x) → (q : Page) (result : Result ℕ OverLimits) → IsErr result
+              → Closes ws images n p₀ q result
+          put_over {x} putting q result e = record {
+            written = λ out copies page. over (widths_of ws) q _ result e (over_more (under_behind out) (put_leaves (Err x) putting out copies page));
+          }
 
-            -- the right side is the last node
-            right_last : y.ok ≡ true → j ≡ (under out).at
-            right_last e =
-                last_is (under out) put_page
+          -- and the join is written
+          pub inner_closes : {j : ℕ} → Puts ws images r d p₁ p₂ (Ok j) → {wl wr i' j' : ℕ} → i' ≡ i → wl ≡ w → j' ≡ j → wr ≡ width_at ws (right ws n)
+              → (q : Page) (result : Result ℕ OverLimits) → Grows p₂ q result (with_inner outside ks wl wr i' j' (node_at ws n))
+              → Closes ws images n p₀ q result
+          inner_closes {j} putting es el ej ew q result joining = record {
+            written = λ out copies page.
+                let two = put_leaves (Ok j) putting out copies page in
+                let end = last_is (under out) two.1
                 (put_end ws a.formed (λ k. get_or images k 0) (right ws n) (dependent_right ws a.formed n h eight)
-                (inner_domain outside w reads (length out)) (front out)) e ej
-
-            join_page : Page (widths_of ws) nodes₃ items₃ rows₃ z (closing ws (λ k. get_or images k 0) n out).out []
-            join_page =
-                page_then (with_inner outside ks wl wr i j (node_at ws n)) joining put_page
-                (finished_behind (under out).out wl wr i j) (under_behind out) (λ e. rw (ei, el, ew, right_last e) (sym (target out)))
-
-          pub inner_closes : Closes ws images n (sheet nodes₀ items₀ rows₀ c) (sheet nodes₃ items₃ rows₃ z)
-          inner_closes = record {
-            written = join_page;
-            stays = λ e. absurd (true≢false (sym ok ∙ over_stays front (λ out. extends_one out _) domained e));
+                (inner_domain outside w reads (length out)) (front out)) in
+                rw (target out) (rw (es, ei, el, ej, ew, end) at (joining.written (widths_of ws) (under out).out two.0));
           }

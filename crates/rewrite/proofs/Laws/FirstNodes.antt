@@ -2,7 +2,8 @@
 use mathlib.Core.Path.{◌≡◌, refl, sym, ap, ◌∙◌}
 use mathlib.Core.Bool.{Bool, true, false, true≢false}
 use mathlib.Core.List.{List, []}
-use Prim.Native.Nat.{ℕ, suc, pred, ◌+◌, ◌≤◌, ◌<◌}
+use Prim.Native.Nat.{ℕ, zero, suc, ◌+◌, ◌-◌, ◌≤◌, ◌<◌}
+use native.Mathlib.Nat.{add-zero, add-suc}
 use native.Mathlib.Omega.{arith}
 use native.Mathlib.Numerals.{add-one}
 use lib.Dec.{ltb}
@@ -15,12 +16,15 @@ use Rattle.plan.specs.Words as words
 use Rattle.plan.specs.Words.{nodes}
 use Rattle.plan.specs.Plan.{node_at, widths_of}
 use Rattle.plan.specs.Promise.{Accepted}
-use Rattle.pages.specs.declared.page.Cursor.{Cursor}
+use Rattle.pages.specs.declared.page.OverLimits.{OverLimits}
+use Rattle.pages.specs.declared.page.Page.{Page}
 use Rattle.rewrite.specs.Answer.{new_plan}
-use Rattle.pages.specs.Pages.{Page, Finished, sheet}
+use Rattle.pages.specs.Pages.{Finished, Holds, Leaves}
 use Rattle.rewrite.specs.Closing.{Closes, closing}
-use Rattle.pages.proofs.Laws.Pages.{over_more, page_zero}
-use Rattle.rules.proofs.Laws.AppendedNodes.{AtEnd, Extends}
+use Rattle.rules.proofs.Laws.AppendedNodes.{AtEnd, Extends, extends_none, extends_then}
+use Rattle.rules.proofs.Laws.RulePages.{over_more}
+use Rattle.std.specs.Prelude.{Result, Ok, Err, IsErr}
+use Rattle.std.proofs.lemmas.Result.{MatchResult-from_err}
 use Rattle.rules.proofs.Laws.UnderDomain.{last_is}
 use Rattle.rewrite.proofs.Laws.ClosedNodes.{closing_behind, closing_end}
 use Rattle.rewrite.proofs.Laws.PlanPieces.{step_closed, step_open, after, shape, after_suc, next_shape}
@@ -31,16 +35,16 @@ abbrev copies : List ℕ → ℕ → ℕ
 copies images i = get_or images i 0
 
 -- what is known after k nodes
-pub record Stepped (ws nodes items rows images : List ℕ) (c : Cursor) (k : ℕ) : Type 0 where
-  pub page : Page (widths_of ws) nodes items rows c (after ws k).out []
-  pub placed : c.ok ≡ true → Placing ws (λ i. get_or images i 0) k
+pub record Stepped (ws : List ℕ) (page : Page) (images : List ℕ) (k : ℕ) : Type 0 where
+  pub holds : Holds (widths_of ws) page (after ws k).out []
+  pub placed : Placing ws (λ i. get_or images i 0) k
   pub size : length images ≡ 256
 
-pub stepped_none : (ws nodes items : List ℕ) → Stepped ws nodes items (replicate 256 0) (replicate 256 0) (record { nodes = 0; items = 0; ok = true }) 0
+pub stepped_none : (ws : List ℕ) (page : Page) → Holds (widths_of ws) page [] [] → Stepped ws page (replicate 256 0) 0
 unfolding steps
-stepped_none ws nodes items = record {
-  page = page_zero (widths_of ws) nodes items 256;
-  placed = λ t i h. absurd (omega arith);
+stepped_none ws page h = record {
+  holds = h;
+  placed = λ i h. absurd (omega arith);
   size = length-replicate {A = ℕ} 256 0;
 }
 
@@ -59,23 +63,18 @@ module _ (ws : List ℕ) (a : Accepted ws) (k : ℕ) (h : k < nodes ws) where
   written = closed_node (piece_at (after ws k)) (node_at ws k) (after ws k).out
 
   -- an open node is not written
-  open_step : {nodes items rows images : List ℕ} {c : Cursor} → closed (shape ws k) ≡ false → Stepped ws nodes items rows images c k
-      → Stepped ws nodes items rows images c (k + 1)
-  open_step {images} e s =
-      rw add-one
+  open_same : closed (shape ws k) ≡ false → (after ws (suc k)).out ≡ (after ws k).out
+  open_same e = ap (λ (x : State). x.out) (after_suc ws k) ∙ step_open (widths_of ws) (after ws k) (node_at ws k) (ap closed (next_shape ws k h) ∙ e)
+
+  pub stepped_open : {page page₀ : Page} {images images₀ : List ℕ} → closed (shape ws k) ≡ false → Stepped ws page₀ images₀ k → page ≡ page₀
+      → images ≡ images₀ → Stepped ws page images (k + 1)
+  stepped_open {images₀ = images₀} e s ep em =
+      rw (ep, em, add-one)
       (record {
-        page = rw same s.page;
-        placed = λ t. placing_next ws (λ i. get_or images i 0) k (s.placed t) (λ q. absurd (true≢false (sym q ∙ e)));
+        holds = rw (open_same e) s.holds;
+        placed = placing_next ws (λ i. get_or images₀ i 0) k s.placed (λ q. absurd (true≢false (sym q ∙ e)));
         size = s.size;
       })
-    where
-      same : (after ws (suc k)).out ≡ (after ws k).out
-      same = ap (λ (x : State). x.out) (after_suc ws k) ∙ step_open (widths_of ws) (after ws k) (node_at ws k) (ap closed (next_shape ws k h) ∙ e)
-
-  pub stepped_open : {nodes nodes₀ items items₀ rows rows₀ images images₀ : List ℕ} {c c₀ : Cursor} → closed (shape ws k) ≡ false
-      → Stepped ws nodes₀ items₀ rows₀ images₀ c₀ k
-      → nodes ≡ nodes₀ → items ≡ items₀ → rows ≡ rows₀ → images ≡ images₀ → c ≡ c₀ → Stepped ws nodes items rows images c (k + 1)
-  stepped_open e s en ei er em ec = rw (en, ei, er, em, ec) (open_step e s)
 
   module _ (closes : closed (shape ws k) ≡ true) where
     next_is : closed (shape_of (widths_of ws) (λ i. (piece_at (after ws k) i).shape) (node_at ws k)) ≡ true
@@ -97,40 +96,53 @@ module _ (ws : List ℕ) (a : Accepted ws) (k : ℕ) (h : k < nodes ws) where
     written_end : AtEnd written
     written_end = rw written_is (closing_end ws (image_of ws k) k (after ws k).out)
 
-    closed_step : {nodes nodes' items items' rows rows' images images' : List ℕ} {c d : Cursor} (x : ℕ) → Stepped ws nodes items rows images c k
-        → Closes ws images k (sheet nodes items rows c) (sheet nodes' items' rows' d) → x ≡ pred d.nodes → images' ≡ set images k x → k < 256
-        → Stepped ws nodes' items' rows' images' d (k + 1)
-    closed_step {nodes} {nodes'} {items} {items'} {rows} {rows'} {images} {images'} {c} {d} x s wrote last stored few =
-        rw (add-one, stored)
+    -- what it writes
+    closing_leaves : {page q : Page} {images : List ℕ} (result : Result ℕ OverLimits) → Stepped ws page images k → Closes ws images k page q result
+        → Leaves (widths_of ws) q (after ws (suc k)).out result
+    closing_leaves {images = images} result s wrote =
+        rw (after_closed, next_closed ws a.formed (copies images) k h closes s.placed (after ws k).out)
+        (wrote.written (after ws k).out (copies_stand ws a (copies images) k (omega arith) s.placed) s.holds)
+
+    pub stepped_closed : {page₀ page₁ page : Page} {images₀ images : List ℕ} {x : ℕ} → Stepped ws page₀ images₀ k
+        → Closes ws images₀ k page₀ page₁ (Ok x) → page ≡ page₁ → images ≡ set images₀ k x → k < 256 → Stepped ws page images (k + 1)
+    stepped_closed {images₀ = images₀} {x = x} s wrote ep em few =
+        let left = closing_leaves (Ok x) s wrote in
+        let e : x ≡ written.at = last_is written (rw after_closed at left.1) written_end in
+        rw (ep, em, add-one)
         (record {
-          page = page c.ok refl;
-          placed = λ t. there (last_is written (rw after_closed at (page c.ok refl)) written_end t last) c.ok refl t;
-          size = length-set images k x ∙ s.size;
+          holds = left.0;
+          placed =
+              placing_next ws (copies (set images₀ k x)) k (λ i g u. get_or-set_other images₀ k i x 0 (λ r. omega arith) ∙ s.placed i g u)
+              (λ u. get_or-set_same images₀ k x 0 (omega (arith, s.size)) ∙ e ∙ sym image_closed);
+          size = length-set images₀ k x ∙ s.size;
         })
-      where
-        page : (b : Bool) → c.ok ≡ b → Page (widths_of ws) nodes' items' rows' d (after ws (suc k)).out []
-        page true e =
-            rw (after_closed, next_closed ws a.formed (copies images) k h closes (s.placed e) (after ws k).out)
-            (wrote.written (after ws k).out (copies_stand ws a (copies images) k (omega arith) (s.placed e)) s.page)
-        page false e =
-            rw (after_closed, written_behind.is)
-            (over_more (widths_of ws) nodes items rows nodes' items' rows' c d (after ws k).out written_behind.rest e (wrote.stays e) s.page)
 
-        there : x ≡ written.at → (b : Bool) → c.ok ≡ b → d.ok ≡ true → Placing ws (copies (set images k x)) (suc k)
-        there e true q t =
-            placing_next ws (copies (set images k x)) k (λ i g u. get_or-set_other images k i x 0 (λ r. omega arith) ∙ s.placed q i g u)
-            (λ u. get_or-set_same images k x 0 (omega (arith, s.size)) ∙ e ∙ sym image_closed)
-        there e false q t = absurd (true≢false (sym t ∙ wrote.stays q))
+  -- one node writes behind those before
+  step_behind : Extends (after ws k).out (after ws (suc k)).out
+  step_behind = go (closed (shape ws k)) refl
+    where
+      go : (b : Bool) → closed (shape ws k) ≡ b → Extends (after ws k).out (after ws (suc k)).out
+      go true e = rw (after_closed e) (written_behind e)
+      go false e = rw (open_same e) extends_none
 
-    -- the code's variables behind the branch are nodes, items, rows, images and c
-    pub stepped_closed : {nodes nodes₀ nodes₁ items items₀ items₁ rows rows₀ rows₁ images images₀ : List ℕ} {c c₀ c₁ : Cursor} (i x : ℕ)
-        → Stepped ws nodes₀ items₀ rows₀ images₀ c₀ k
-        → Closes ws images₀ k (sheet nodes₀ items₀ rows₀ c₀) (sheet nodes₁ items₁ rows₁ c₁) → x ≡ pred c₁.nodes → i ≡ k → k < 256
-        → nodes ≡ nodes₁ → items ≡ items₁ → rows ≡ rows₁ → images ≡ set images₀ i x → c ≡ c₁ → Stepped ws nodes items rows images c (k + 1)
-    stepped_closed i x s wrote last e few en ei er em ec = rw (en, ei, er, em, ec) (closed_step x s wrote last (rw e) few)
+-- so do more
+after_behind : (ws : List ℕ) → Accepted ws → (k d : ℕ) → k + d ≤ nodes ws → Extends (after ws k).out (after ws (k + d)).out
+after_behind ws a k zero h = rw add-zero extends_none
+after_behind ws a k (suc d) h =
+    rw add-suc (extends_then (after_behind ws a k d (omega arith)) (step_behind ws a (k + d) (omega arith)))
+
+-- what is too much after some nodes is so after all
+pub stepped_over : {ws : List ℕ} (a : Accepted ws) (k : ℕ) (h : k < nodes ws) → closed (shape ws k) ≡ true → {page q : Page} {images : List ℕ} {x : OverLimits}
+    → Stepped ws page images k → Closes ws images k page q (Err x) → (r : Page) (result : Result Unit OverLimits) → IsErr result
+    → Finished (widths_of ws) (new_plan ws) r result
+unfolding rewritten
+stepped_over {ws} a k h closes {x = x} s wrote r result e =
+    let rest = after_behind ws a (suc k) (nodes ws - suc k) (omega arith) in
+    let q : suc k + (nodes ws - suc k) ≡ nodes ws = omega arith in
+    MatchResult-from_err result _ _ e (λ _. over_more (rw q at rest) (closing_leaves ws a k h closes (Err x) s wrote))
 
 -- all nodes
-pub stepped_all : {ws nodes items rows images : List ℕ} {c : Cursor} (k n : ℕ) → Stepped ws nodes items rows images c k → n ≡ words.nodes ws → k ≤ n
-    → n ≤ k → Finished (widths_of ws) (new_plan ws) nodes items c
+pub stepped_all : {ws : List ℕ} {page : Page} {images : List ℕ} (k n : ℕ) → Stepped ws page images k → n ≡ words.nodes ws → k ≤ n → n ≤ k
+    → Finished (widths_of ws) (new_plan ws) page (Ok tt)
 unfolding rewritten
-stepped_all {ws} {rows} k n s e g h = let q : k ≡ words.nodes ws = omega arith in (rows, rw q at s.page)
+stepped_all {ws} k n s e g h = let q : k ≡ words.nodes ws = omega arith in rw q at s.holds

@@ -253,7 +253,7 @@ module _ {ws : List ℕ} {n a count : ℕ} (read : Read ws n a count) where
 
   -- where there are only conjuncts
   pub all_conjuncts : (operator ws n ≡ 7 → ⊥) → count ≡ conjunct_count ws n
-  all_conjuncts = count_all ws n (operator ws n) count refl read.number
+  all_conjuncts = count_all ws n count read.number
 
   pub groupjoin_conjuncts : operator ws n ≡ 7 → conjunct_count ws n ≡ length (keep is_conjunct (items_from ws a count))
   groupjoin_conjuncts e = rw (e, read.first, read.number)

@@ -2,13 +2,12 @@
 use mathlib.Core.Path.{◌≡◌, refl, sym, ap, ap₂, ◌∙◌, subst}
 use mathlib.Core.Bool.{Bool, true, false, cond, ◌&&◌, ◌||◌, and_assoc, and-or_distrib_right, or-false, or_assoc}
 use mathlib.Core.List.{List, [], ◌∷◌, append-nil}
-use Prim.Native.Nat.{ℕ, zero, suc, ◌+◌, ◌-◌, ◌*◌, ◌^◌, ◌<◌, ◌≤◌}
+use Prim.Native.Nat.{ℕ, zero, suc, ◌+◌, ◌^◌, ◌<◌, ◌≤◌}
 use native.Mathlib.Omega.{arith}
 use native.Mathlib.Nat.{zero-div}
 use native.Mathlib.Numerals.{add-one}
 use lib.Dec.{eqb, ltb}
 use lib.Bits.{bit_or}
-use lib.ListN.{get_or}
 use borrow.Author.Tests.{eqb-true, eqb-false, eq-eqb, ne_eqb, ltb-true, ltb-false}
 use Rattle.algebra.specs.Lists.{keep, any, upto, Every, done, more}
 use Rattle.algebra.specs.Columns.{Column}
@@ -17,21 +16,12 @@ use Rattle.algebra.proofs.Lists.Every.{every_map, every_of}
 use Rattle.algebra.proofs.Lists.Keep.{keep_append, keep_cong}
 use Rattle.algebra.proofs.Domains.Keys.{upto_below}
 use Rattle.pages.specs.declared.domain.Domain.{Domain}
+use Rattle.pages.specs.declared.sets.ColumnSet.{ColumnSet}
 use Rattle.pages.specs.Sets.{in_set, members}
-use Rattle.pages.specs.Domains.{place_in, Means}
-use Rattle.rules.specs.Reads.{reads_at, reads, ReadsTable, Spotted}
+use Rattle.pages.specs.Domains.{Means}
+use Rattle.rules.specs.Reads.{reads_at, reads, set_at, ReadsTable, Spotted}
 use Rattle.pages.proofs.Laws.Sets.{in_with}
 use Rattle.rules.proofs.Laws.ColumnsRead.{any_append, cond_or}
-
--- ---- where a column stands
-
-pub spot_left : {d : Domain} {level : ℕ} (position : ℕ) → level ≡ 0 → (D : algebra.Domain) → Means d D → d.width + position ≡ algebra.spot D level position
-spot_left position e D m = rw e (ap (λ (w : ℕ). w + position) m.width)
-
-pub spot_outer : {d : Domain} (level position r : ℕ) → (level ≡ 0 → ⊥) → level < 8 → r ≡ place_in d (level - 1) position
-    → (D : algebra.Domain) → Means d D → r ≡ algebra.spot D level position
-spot_outer zero position r h l e D m = absurd (h refl)
-spot_outer (suc level) position r h l e D m = let q : suc level - 1 ≡ level = omega arith in (rw q at e) ∙ m.place level position (omega arith)
 
 -- ---- some element passes
 
@@ -88,7 +78,7 @@ any_one f i (suc n) h = any_snoc (λ k. eqb i k && f k) n ∙ go (ltb i n) refl 
 -- ---- the spots of one level
 
 -- set with the spots of the columns below p
-pub record Spots (d : Domain) (level columns set p set' : ℕ) : Type 0 where
+pub record Spots (d : Domain) (level : ℕ) (columns set : ColumnSet) (p : ℕ) (set' : ColumnSet) : Type 0 where
   pub all : (D : algebra.Domain) → Means d D → (q : ℕ) → q < 64
       → in_set set' q ≡ (in_set set q || any (λ k. eqb q (algebra.spot D level k)) (keep (in_set columns) (upto p)))
 
@@ -99,11 +89,11 @@ equal_swapped a b = go (eqb b a) refl
     go true e = eq-eqb a b (sym (eqb-true b a e))
     go false e = ne_eqb a b (λ q. eqb-false b a e (sym q))
 
-module _ {d : Domain} {level columns set : ℕ} where
+module _ {d : Domain} {level : ℕ} {columns set : ColumnSet} where
   pub spots_none : Spots d level columns set 0 set
   spots_none = record { all = λ D m q h. sym (or-false (in_set set q)) }
 
-  module _ {p set' : ℕ} (before : Spots d level columns set p set') where
+  module _ {p : ℕ} {set' : ColumnSet} (before : Spots d level columns set p set') where
     -- the next position is not there
     pub spots_out : in_set columns p ≡ false → Spots d level columns set (p + 1) set'
     spots_out e = record { all = λ D m q h. rw (add-one p, keep_append (in_set columns) (upto p) (p ∷ []), e, append-nil) (before.all D m q h) }
@@ -119,10 +109,10 @@ module _ {d : Domain} {level columns set : ℕ} where
           (cond_or (at p) false ∙ or-false (at p)))
 
       -- it is there
-      pub spots_in : {v : ℕ} → v ≡ bit_or set' (2 ^ r) → Spots d level columns set (p + 1) v
-      spots_in t = record {
+      pub spots_in : {v : ColumnSet} → v.bits ≡ bit_or set'.bits (2 ^ r) → Spots d level columns set (p + 1) v
+      spots_in {v} t = record {
         all = λ D m q h.
-            rw (t, in_with set' r q, before.all D m q h, next D m q, equal_swapped r q)
+            rw (in_with set' v r t q, before.all D m q h, next D m q, equal_swapped r q)
             (or_assoc (in_set set q) (any (λ k. eqb q (algebra.spot D level k)) (keep (in_set columns) (upto p))) (eqb q r));
       }
 
@@ -130,33 +120,28 @@ module _ {d : Domain} {level columns set : ℕ} where
       pub spots_far : 64 ≤ r → Spots d level columns set (p + 1) set'
       spots_far g = record { all = λ D m q h. rw (next D m q, ne_eqb q r (λ z. omega arith), or-false) (before.all D m q h) }
 
-  pub spots_end : {p set' : ℕ} → Spots d level columns set p set' → 64 ≤ p → p ≤ 64 → Spots d level columns set 64 set'
+  pub spots_end : {p : ℕ} {set' : ColumnSet} → Spots d level columns set p set' → 64 ≤ p → p ≤ 64 → Spots d level columns set 64 set'
   spots_end {p} before g h = let e : p ≡ 64 = omega arith in rw e at before
 
 -- ---- the spots of all levels
 
 -- the spots of the columns of levels below l of node r
-pub record Levels (d : Domain) (table : List ℕ) (r l set : ℕ) : Type 0 where
+pub record Levels (d : Domain) (table : List (List ColumnSet)) (r l : ℕ) (set : ColumnSet) : Type 0 where
   pub all : (D : algebra.Domain) → Means d D → (q : ℕ) → q < 64
-      → in_set set q ≡ any (λ k. any (λ p. eqb q (algebra.spot D k p)) (members (get_or table (8 * r + k) 0))) (upto l)
+      → in_set set q ≡ any (λ k. any (λ p. eqb q (algebra.spot D k p)) (members (set_at table r k))) (upto l)
 
-module _ {d : Domain} {table : List ℕ} {r : ℕ} where
-  pub levels_none : Levels d table r 0 0
-  levels_none = record { all = λ D m q h. rw (zero-div (2 ^ q)) }
+module _ {d : Domain} {table : List (List ColumnSet)} {r : ℕ} where
+  pub levels_none : {set : ColumnSet} → set.bits ≡ 0 → Levels d table r 0 set
+  levels_none e = record { all = λ D m q h. rw (e, zero-div (2 ^ q)) }
 
   -- one level more
-  pub levels_more : {l set set' : ℕ} → Levels d table r l set → {i j : ℕ} → i ≡ r → j ≡ l
-      → ((D : algebra.Domain) → Means d D → (q : ℕ) → q < 64 → in_set set' q ≡ (in_set set q || any (λ p. eqb q (algebra.spot D l p))
-      (members (get_or table (8 * i + j) 0))))
+  pub levels_more : {l : ℕ} {set set' columns : ColumnSet} → Levels d table r l set → columns ≡ set_at table r l
+      → ((D : algebra.Domain) → Means d D → (q : ℕ) → q < 64 → in_set set' q ≡ (in_set set q || any (λ p. eqb q (algebra.spot D l p)) (members columns)))
       → Levels d table r (l + 1) set'
-  levels_more {l} {set} {set'} before {i} {j} ei ej f = record {
+  levels_more {l} before e f = record {
     all = λ D m q h.
-        any_next (λ k. any (λ p. eqb q (algebra.spot D k p)) (members (get_or table (8 * r + k) 0))) l (before.all D m q h)
-        (subst (λ (n : ℕ). in_set set' q ≡ (in_set set q || any (λ p. eqb q (algebra.spot D l p)) (members (get_or table n 0)))) place (f D m q h));
+        any_next (λ k. any (λ p. eqb q (algebra.spot D k p)) (members (set_at table r k))) l (before.all D m q h) (rw e at (f D m q h));
   }
-    where
-      place : 8 * i + j ≡ 8 * r + l
-      place = omega arith
 
 -- a column's spot, found by its level and position
 spot_of : (F : ℕ → ℕ → Bool) (c : Column) → c.level < 8 → c.position < 64
@@ -204,7 +189,7 @@ keep_upto p n (suc m) h f = go (ltb m n) refl (keep_upto p n m)
     go false t before = let g = ltb-false m n t in rw (keep_append p (upto m) (m ∷ []), f m g, append-nil) (before g f)
 
 -- all levels: the keys
-pub key_set : {d : Domain} (table : List ℕ) (r : ℕ) {l set : ℕ} → Levels d table r l set → 8 ≤ l → l ≤ 8
+pub key_set : {d : Domain} (table : List (List ColumnSet)) (r : ℕ) {l : ℕ} {set : ColumnSet} → Levels d table r l set → 8 ≤ l → l ≤ 8
     → (ws : List ℕ) (D : algebra.Domain) (w : ℕ) → Means d D → ReadsTable ws (suc r) table → D.width + w ≤ 64 → Spotted D w (reads_at ws r)
     → members set ≡ algebra.domain_keys D w (reads_at ws r)
 key_set {d} table r {l} {set} levels g h ws D w m has narrow spotted =
@@ -221,16 +206,16 @@ key_set {d} table r {l} {set} levels g h ws D w m has narrow spotted =
     key q = any (λ c. eqb q (algebra.spot D c.level c.position)) cs
 
     level : (q k : ℕ) → k < 8
-        → any (λ p. eqb q (algebra.spot D k p)) (members (get_or table (8 * r + k) 0)) ≡ any (λ p. reads cs k p && eqb q (algebra.spot D k p)) (upto 64)
+        → any (λ p. eqb q (algebra.spot D k p)) (members (set_at table r k)) ≡ any (λ p. reads cs k p && eqb q (algebra.spot D k p)) (upto 64)
     level q k hk =
-        any_keep (in_set (get_or table (8 * r + k) 0)) (λ p. eqb q (algebra.spot D k p)) (upto 64)
-        ∙ any_cong (λ p. in_set (get_or table (8 * r + k) 0) p && eqb q (algebra.spot D k p)) (λ p. reads cs k p && eqb q (algebra.spot D k p))
+        any_keep (in_set (set_at table r k)) (λ p. eqb q (algebra.spot D k p)) (upto 64)
+        ∙ any_cong (λ p. in_set (set_at table r k) p && eqb q (algebra.spot D k p)) (λ p. reads cs k p && eqb q (algebra.spot D k p))
         (every_map (λ p hp. rw (has r k p (omega arith) hk hp)) (upto_below 64))
 
     at : (q : ℕ) → q < 64 → in_set set q ≡ key q
     at q i =
         eight.all D m q i
-        ∙ any_cong (λ k. any (λ p. eqb q (algebra.spot D k p)) (members (get_or table (8 * r + k) 0)))
+        ∙ any_cong (λ k. any (λ p. eqb q (algebra.spot D k p)) (members (set_at table r k)))
         (λ k. any (λ p. reads cs k p && eqb q (algebra.spot D k p)) (upto 64)) (every_map (λ k hk. level q k hk) (upto_below 8))
         ∙ spots_of (λ k p. eqb q (algebra.spot D k p)) (every_map (λ c s. (s.0, s.1)) spotted)
 

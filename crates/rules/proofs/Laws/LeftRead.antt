@@ -2,11 +2,9 @@
 use mathlib.Core.Path.{◌∙◌, ◌≡◌, ap, refl, sym}
 use mathlib.Core.Bool.{Bool, ◌&&◌, cond, false, not, true, true≢false}
 use mathlib.Core.List.{List, [], ◌∷◌}
-use Prim.Native.Nat.{◌*◌, ◌<◌, suc, zero, ℕ}
-use native.Mathlib.Nat.{add-zero}
+use Prim.Native.Nat.{◌<◌, suc, zero, ℕ}
 use native.Mathlib.Omega.{arith}
 use lib.Dec.{eqb, ltb}
-use lib.ListN.{get_or}
 use borrow.Author.Tests.{eq-eqb, eqb-false, ltb-false, ltb-true, ne_eqb}
 use Rattle.algebra.specs.Lists.{Every, any}
 use Rattle.algebra.specs.Columns.{Column, reads_left, shape_at}
@@ -17,32 +15,29 @@ use Rattle.plan.specs.Plan.{nodes_of, widths_of}
 use Rattle.plan.specs.Promise.{Accepted}
 use Rattle.plan.proofs.Laws.Formed.{facts_at}
 use Rattle.pages.specs.declared.domain.Domain.{Domain}
+use Rattle.pages.specs.declared.sets.ColumnSet.{ColumnSet}
 use Rattle.pages.specs.Sets.{bit_of, in_set, rank}
-use Rattle.pages.specs.Domains.{Means, Sound, place_in}
-use Rattle.rules.specs.Reads.{ReadsTable, reads, reads_at}
+use Rattle.pages.specs.Domains.{Means}
+use Rattle.rules.specs.Reads.{ReadsTable, reads, reads_at, set_at}
 use Rattle.pages.proofs.Laws.Sets.{rank_step}
 use Rattle.pages.proofs.Laws.Limits.{node_index}
 use Rattle.rules.proofs.Laws.InputReads.{reads_small}
 
 -- ---- the domain of a right side
 
--- a domain means something
-pub means_some : {d : Domain} → Sound d → Means d (record { node = d.node; width = d.width; place = place_in d })
-means_some s = record { node = refl; width = refl; narrow = s; place = λ l p h. refl }
-
-module _ {d : Domain} (s : Sound d) {o m : ℕ} (e : o ≡ m) where
+module _ {d : Domain} {m : ℕ} where
   -- past a dependent join
-  pub domain_inside : {r : Domain} → ((D : algebra.Domain) → Means d D → Means r (algebra.inside D)) → o ≡ 8
-      → Sound r × ((D : algebra.Domain) → Means d D → Means r (cond (eqb m 8) (algebra.inside D) D))
-  domain_inside f q = ((f _ (means_some s)).narrow, λ D t. rw (eq-eqb m 8 (sym e ∙ q)) (f D t))
+  pub domain_inside : {r : Domain} → ((D : algebra.Domain) → Means d D → Means r (algebra.inside D)) → m ≡ 8
+      → (D : algebra.Domain) → Means d D → Means r (cond (eqb m 8) (algebra.inside D) D)
+  domain_inside f q D t = rw (eq-eqb m 8 q) (f D t)
 
   -- elsewhere it is the same
-  pub domain_same : (o ≡ 8 → ⊥) → Sound d × ((D : algebra.Domain) → Means d D → Means d (cond (eqb m 8) (algebra.inside D) D))
-  domain_same q = (s, λ D t. rw (ne_eqb m 8 (λ p. q (e ∙ p))) t)
+  pub domain_same : (m ≡ 8 → ⊥) → (D : algebra.Domain) → Means d D → Means d (cond (eqb m 8) (algebra.inside D) D)
+  domain_same q D t = rw (ne_eqb m 8 q) t
 
 -- ---- a set without members
 
-rank_zero : (s k : ℕ) → rank s k ≡ 0 → (p : ℕ) → p < k → in_set s p ≡ false
+rank_zero : (s : ColumnSet) (k : ℕ) → rank s k ≡ 0 → (p : ℕ) → p < k → in_set s p ≡ false
 rank_zero s zero e p h = absurd (omega arith)
 rank_zero s (suc k) e p h = go (ltb p k) refl (rank_zero s k (omega (arith, rank_step s k)) p)
   where
@@ -53,7 +48,7 @@ rank_zero s (suc k) e p h = go (ltb p k) refl (rank_zero s k (omega (arith, rank
         let none : bit_of s k ≡ 0 = omega (arith, rank_step s k) in
         rw (q, none)
 
-zero_rank : (s k : ℕ) → ((p : ℕ) → p < k → in_set s p ≡ false) → rank s k ≡ 0
+zero_rank : (s : ColumnSet) (k : ℕ) → ((p : ℕ) → p < k → in_set s p ≡ false) → rank s k ≡ 0
 unfolding rank
 zero_rank s zero f = refl
 zero_rank s (suc k) f =
@@ -81,28 +76,29 @@ left_all (c ∷ cs) s f = go (eqb c.level 0) f (left_all cs (every_tail s))
     go true g rest = absurd (true≢false (rw (eq-eqb c.position c.position refl) at (g c.position (every_head s))))
     go false g rest = rest g
 
-module _ (ws : List ℕ) (a : Accepted ws) (n : ℕ) (h : n < nodes ws) {o : ℕ} (e : o ≡ operator ws n) where
+module _ (ws : List ℕ) (a : Accepted ws) (n : ℕ) (h : n < nodes ws) where
   -- another operator
-  pub left_unread : (o ≡ 8 → ⊥) → false ≡ (eqb (operator ws n) 8 && reads_left (shape_at (widths_of ws) (nodes_of ws) (right ws n)))
-  left_unread q = rw (ne_eqb (operator ws n) 8 (λ p. q (e ∙ p)))
+  pub left_unread : (operator ws n ≡ 8 → ⊥) → false ≡ (eqb (operator ws n) 8 && reads_left (shape_at (widths_of ws) (nodes_of ws) (right ws n)))
+  left_unread q = rw (ne_eqb (operator ws n) 8 q)
 
-  module _ (q : o ≡ 8) {r i : ℕ} (er : r ≡ right ws n) (ei : i ≡ r) where
+  module _ (q : operator ws n ≡ 8) {r i : ℕ} (er : r ≡ right ws n) (ei : i ≡ r) where
     right_node : right ws n < nodes ws
-    right_node = let below = (facts_at ws a.formed n h).right_node (rw (sym e ∙ q)) in omega arith
+    right_node = let below = (facts_at ws a.formed n h).right_node (rw q) in omega arith
 
-    pub right_index : 8 * i < 2048
-    right_index = omega (arith, node_index a right_node (ei ∙ er))
+    pub right_index : i < 256
+    right_index = node_index a right_node (ei ∙ er)
 
     -- the number of positions that the table has
-    pub left_read : (table : List ℕ) → ReadsTable ws (nodes ws) table → {k : ℕ} → k ≡ rank (get_or table (8 * i) 0) 64
-        → not (eqb k 0) ≡ (eqb (operator ws n) 8 && reads_left (shape_at (widths_of ws) (nodes_of ws) (right ws n)))
-    left_read table t {k} f = rw (eq-eqb (operator ws n) 8 (sym e ∙ q)) (go (reads_left (shape_at (widths_of ws) (nodes_of ws) (right ws n))) refl)
+    pub left_read : (table : List (List ColumnSet)) → ReadsTable ws (nodes ws) table → {b : Bool} → b ≡ eqb (rank (set_at table i 0) 64) 0
+        → not b ≡ (eqb (operator ws n) 8 && reads_left (shape_at (widths_of ws) (nodes_of ws) (right ws n)))
+    left_read table t f =
+        rw (f, eq-eqb (operator ws n) 8 q) (go (reads_left (shape_at (widths_of ws) (nodes_of ws) (right ws n))) refl)
       where
-        entry : (p : ℕ) → p < 64 → in_set (get_or table (8 * i) 0) p ≡ reads (reads_at ws (right ws n)) 0 p
-        entry p g = rw (ei ∙ er) (rw add-zero at (t (right ws n) 0 p right_node (omega arith) g))
+        entry : (p : ℕ) → p < 64 → in_set (set_at table i 0) p ≡ reads (reads_at ws (right ws n)) 0 p
+        entry p g = rw (ei ∙ er) (t (right ws n) 0 p right_node (omega arith) g)
 
-        go : (b : Bool) → reads_left (shape_at (widths_of ws) (nodes_of ws) (right ws n)) ≡ b → not (eqb k 0) ≡ b
+        go : (b : Bool) → reads_left (shape_at (widths_of ws) (nodes_of ws) (right ws n)) ≡ b → not (eqb (rank (set_at table i 0) 64) 0) ≡ b
         go true u =
-            ap not (ne_eqb k 0 (λ z. true≢false (sym u ∙ left_all (reads_at ws (right ws n)) (reads_small ws a (right ws n) right_node)
-            (λ p g. sym (entry p g) ∙ rank_zero (get_or table (8 * i) 0) 64 (sym f ∙ z) p g))))
-        go false u = ap not (eq-eqb k 0 (f ∙ zero_rank (get_or table (8 * i) 0) 64 (λ p g. entry p g ∙ left_none (reads_at ws (right ws n)) p u)))
+            ap not (ne_eqb _ 0 (λ z. true≢false (sym u ∙ left_all (reads_at ws (right ws n)) (reads_small ws a (right ws n) right_node)
+            (λ p g. sym (entry p g) ∙ rank_zero (set_at table i 0) 64 z p g))))
+        go false u = ap not (eq-eqb _ 0 (zero_rank (set_at table i 0) 64 (λ p g. entry p g ∙ left_none (reads_at ws (right ws n)) p u)))

@@ -16,15 +16,18 @@ use Rattle.plan.specs.Words.{Item, operator, left, right, kind, items_from}
 use Rattle.plan.specs.Items.{is_key, position_of, aggregate_of, conjuncts_in, keys_in, aggregates_in, conjunct_right, computation_right, key_right}
 use Rattle.plan.specs.Plan.{computation_in, node_for, node_at, kind_of}
 use Rattle.plan.specs.Verdict.{has_right, items_right}
+use Rattle.plan.specs.Codes.{number_of}
+use Rattle.plan.specs.declared.operator.Operator.{Operator}
+use Rattle.plan.specs.declared.operator.Operator.TheVariants.{Scan, Select, Map, Project, Join, Group, Groupjoin, Dependent}
 use Rattle.plan.specs.Encoding.{conjunct_words, computation_words, position_words, aggregate_words}
 use Rattle.plan.proofs.Laws.Header.{both}
 use Rattle.plan.proofs.Laws.Numbered.{every_all}
-use Rattle.plan.proofs.Laws.Formed.{by_operator, facts_at}
-use Rattle.plan.proofs.Laws.Items.{items_length, tags_in, keys_in_lem}
+use Rattle.plan.proofs.Laws.Items.{items_length}
 use Rattle.pages.specs.Items.{item_words, shifted_words, moved_words}
 use Rattle.rules.specs.Under.{over_input}
 use Rattle.pages.specs.Pages.{head_of}
-use Rattle.rules.proofs.Laws.ItemSorts.{Parted, Read, node_is, group_parted, outputs}
+use Rattle.rules.proofs.Laws.ItemSorts.{Parted, Read, node_is, sorts, group_parted, outputs}
+use Rattle.std.specs.Prelude.{None}
 use Rattle.rules.proofs.Laws.RuleItems.{Written, computation_moved, shift_both_lem, aggregates_shifted, aggregates_copied}
 use Rattle.rules.proofs.Laws.RuleItems.{conjuncts_all, conjuncts_alike, columns_first}
 
@@ -63,7 +66,7 @@ module _ {ws : List ℕ} {n a count : ℕ} (read : Read ws n a count) (D : Domai
   gs = map (move_aggregate (shift D.width)) (aggregates_in xs)
 
   pub project_over : operator ws n ≡ 4
-      → Written (map (position_words 12) (span 0 w) ++ map (shifted_words w) xs) (head_of 4 i 0 0) 0 (over_input D i (node_at ws n))
+      → Written (map (position_words 12) (span 0 w) ++ map (shifted_words w) xs) (head_of Project i 0 None) 0 (over_input D i (node_at ws n))
   unfolding node_for
   project_over q =
       rw (e, node_is read 4 q)
@@ -76,9 +79,9 @@ module _ {ws : List ℕ} {n a count : ℕ} (read : Read ws n a count) (D : Domai
         extra_is = λ widths. refl;
       })
 
-  module _ (q : operator ws n ≡ 6) {m : ℕ} (f : m ≡ tags_in ws a 11 11 count) where
+  module _ (q : operator ws n ≡ 6) {m : ℕ} (f : m ≡ length (keep is_key (items_from ws a count))) where
     keys : m ≡ length (keep is_key xs)
-    keys = f ∙ sym (keys_in_lem ws a count)
+    keys = f
 
     parted : Parted ws a count key_right is_key m
     parted = rw keys (group_parted read q)
@@ -86,7 +89,7 @@ module _ {ws : List ℕ} {n a count : ℕ} (read : Read ws n a count) (D : Domai
     -- a group without keys becomes a groupjoin with the domain
     pub group_none : m ≡ 0 → (node : ℕ) → node ≡ D.node
         → Written (map conjunct_words (match (λ p. p) (λ p. w + p) (upto w)) ++ map (shifted_words w) xs)
-        (head_of 7 node i 0) count (over_input D i (node_at ws n))
+        (head_of Groupjoin node i None) count (over_input D i (node_at ws n))
     unfolding node_for
     group_none z node g =
         let p : Parted ws a count key_right is_key 0 = rw z at parted in
@@ -102,7 +105,7 @@ module _ {ws : List ℕ} {n a count : ℕ} (read : Read ws n a count) (D : Domai
         })
 
     pub group_some : (m ≡ 0 → ⊥)
-        → Written (map (position_words 11) (span 0 w) ++ map (shifted_words w) xs) (head_of 6 i 0 0) 0 (over_input D i (node_at ws n))
+        → Written (map (position_words 11) (span 0 w) ++ map (shifted_words w) xs) (head_of Group i 0 None) 0 (over_input D i (node_at ws n))
     unfolding node_for
     group_some z =
         rw (e, node_is read 6 q, over_keys D i (left ws n) (aggregates_in xs) (keys_in xs) some)
@@ -127,32 +130,18 @@ module _ {ws : List ℕ} {n a count : ℕ} (read : Read ws n a count) (D : Domai
 
   -- select and map
   module _ (h : operator ws n ≡ 1 → ⊥) (k : has_right (operator ws n) ≡ false) where
-    pub moved_over : {o : ℕ} → o ≡ operator ws n → (o ≡ 4 → ⊥) → (o ≡ 6 → ⊥)
-        → Written (map (moved_words D (shift_both 0 w 0)) xs) (head_of o i 0 0) 0 (over_input D i (node_at ws n))
+    pub moved_over : (x : Operator) → operator ws n ≡ number_of x → (x ≡ Project → ⊥) → (x ≡ Group → ⊥)
+        → Written (map (moved_words D (shift_both 0 w 0)) xs) (head_of x i 0 None) 0 (over_input D i (node_at ws n))
     unfolding node_for items_right
-    moved_over {o} q f g =
-        let v = facts_at ws read.accepted.formed n read.there in
-        let right_sorts : items_right o xs ≡ true = rw (q, read.first, read.number) v.sorts in
-        rw (e, node_is read o (sym q))
-        (by_operator Over
-        (λ s x y z t. absurd (z refl))
-        selects
-        computes
-        (λ s x y z t. absurd (x refl))
-        (λ s x y z t. absurd (true≢false t))
-        (λ s x y z t. absurd (y refl))
-        (λ s x y z t. absurd (true≢false t))
-        (λ s x y z t. absurd (true≢false t))
-        o (omega (arith, v.low)) (omega (arith, v.high)) right_sorts f g (rw q h) (rw q k))
+    moved_over x q f g = rw (e, node_is read (number_of x) q) (go x q f g)
       where
-        Over : ℕ → Type 0
-        Over o =
-            items_right o xs ≡ true → (o ≡ 4 → ⊥) → (o ≡ 6 → ⊥) → (o ≡ 1 → ⊥) → has_right o ≡ false
-            → Written (map (moved_words D (shift_both 0 D.width 0)) xs) (head_of o i 0 0) 0
-            (over_input D i (node_for o (left ws n) (right ws n) (kind_of (kind ws n)) xs))
+        Over : Operator → Type 0
+        Over x =
+            Written (map (moved_words D (shift_both 0 D.width 0)) xs) (head_of x i 0 None) 0
+            (over_input D i (node_for (number_of x) (left ws n) (right ws n) (kind_of (kind ws n)) xs))
 
-        selects : Over 2
-        selects s x y z t =
+        selects : all conjunct_right xs ≡ true → Over Select
+        selects s =
             let r = every_all conjunct_right xs s in
             record {
               items = conjuncts_alike D (conjuncts_in xs) xs (conjuncts_all xs r) r;
@@ -163,8 +152,8 @@ module _ {ws : List ℕ} {n a count : ℕ} (read : Read ws n a count) (D : Domai
               extra_is = λ widths. refl;
             }
 
-        computes : Over 3
-        computes s x y z t =
+        computes : (eqb (length xs) 1 && all computation_right xs) ≡ true → Over Map
+        computes s =
             record { items = single xs s; operator = refl; left = refl; right = refl; kind = refl; extra_is = λ widths. refl }
           where
             single : (ys : List Item) → (eqb (length ys) 1 && all computation_right ys) ≡ true
@@ -173,3 +162,13 @@ module _ {ws : List ℕ} {n a count : ℕ} (read : Read ws n a count) (D : Domai
             single (y ∷ []) r =
                 rw (shift_both_lem D.width) (ap (λ (l : List ℕ). l ∷ []) (computation_moved D (shift D.width) y (both _ _ r).0))
             single (y ∷ u ∷ ys) r = absurd (omega (arith, eqb-true (suc (suc (length ys))) 1 (both _ _ r).0))
+
+        go : (x : Operator) → operator ws n ≡ number_of x → (x ≡ Project → ⊥) → (x ≡ Group → ⊥) → Over x
+        go Scan q f g = absurd (h q)
+        go Select q f g = selects (sorts read 2 q)
+        go Map q f g = computes (sorts read 3 q)
+        go Project q f g = absurd (f refl)
+        go Join q f g = absurd (true≢false (rw q at k))
+        go Group q f g = absurd (g refl)
+        go Groupjoin q f g = absurd (true≢false (rw q at k))
+        go Dependent q f g = absurd (true≢false (rw q at k))

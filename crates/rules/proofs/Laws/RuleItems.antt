@@ -2,28 +2,30 @@
 use mathlib.Core.Path.{◌≡◌, refl, sym, ap, ◌∙◌}
 use mathlib.Core.Bool.{true, false, cond, ◌&&◌}
 use mathlib.Core.List.{List, ◌∷◌, ◌++◌, map}
-use Prim.Native.Nat.{ℕ, ◌≤◌}
+use Prim.Native.Nat.{ℕ}
 use native.Mathlib.Omega.{arith}
 use native.Mathlib.Nat.{add-zero, zero-add}
 use lib.Dec.{eqb}
 use borrow.Author.Tests.{le-ltb, eqb-true}
 use Rattle.algebra.specs.Lists.{upto, Every, done, more}
-use Rattle.algebra.specs.Plan.{Conjunct, Aggregate, count, sum, minimum, maximum, Node}
+use Rattle.algebra.specs.Plan.{Conjunct, Aggregate, count, sum, minimum, maximum, Kind, inner, semi, anti, left_outer, Node}
 use Rattle.algebra.specs.Domains.{Domain, move_term, move_conjunct, move_computation, move_aggregate, shift, shift_both, span, domain_first}
 use Rattle.algebra.proofs.Lists.Every.{every_of, every_map}
 use Rattle.algebra.proofs.Lists.Keep.{keep_all, map_append, map_map, map_cong, map_id}
 use Rattle.plan.specs.Words.{Item}
 use Rattle.plan.specs.Items.{is_conjunct, term_of, test_of, conjunct_of, computation_of, position_of}
 use Rattle.plan.specs.Items.{aggregate_of, conjuncts_in, conjunct_right, computation_right, is_local, is_unused, aggregate_right}
-use Rattle.plan.specs.Plan.{kind_of}
-use Rattle.plan.specs.Encoding.{term_words, unused, test_tag, conjunct_words, computation_words, position_words, aggregate_words, kind_word, parts}
+use Rattle.plan.specs.Codes.{number_of, meant_kind}
+use Rattle.plan.specs.declared.kinds.JoinKind.{JoinKind}
+use Rattle.plan.specs.declared.kinds.JoinKind.TheVariants.{Inner, Semi, Anti, LeftOuter}
+use Rattle.plan.specs.Encoding.{term_words, unused, test_tag, conjunct_words, computation_words, position_words, aggregate_words, parts}
 use Rattle.plan.proofs.Laws.Header.{both, between_says}
 use Rattle.plan.proofs.Laws.Numbered.{in_range_lem}
 use Rattle.plan.proofs.Laws.Written.{aggregate_item}
 use Rattle.plan.proofs.Laws.Restored.{aggregate_again}
 use Rattle.pages.specs.declared.page.Head.{Head}
 use Rattle.pages.specs.Items.{item_words, shifted_words, moved_words}
-use Rattle.pages.specs.Pages.{extra_of}
+use Rattle.pages.specs.Pages.{extra_of, kind_number}
 
 -- ---- one item
 
@@ -121,16 +123,24 @@ span_first w = map_id (shift 0) (every_of zero-add (upto w))
 -- node n is written with this head and the items new; extra is a groupjoin's number of aggregates
 pub record Written (new : List (List ℕ)) (head : Head) (extra : ℕ) (n : Node) : Type 0 where
   pub items : new ≡ (parts n).items
-  pub operator : head.operator ≡ (parts n).operator
+  pub operator : number_of head.operator ≡ (parts n).operator
   pub left : head.left ≡ (parts n).left
   pub right : head.right ≡ (parts n).right
-  pub kind : head.kind ≡ (parts n).kind
+  pub kind : kind_number head.kind ≡ (parts n).kind
   pub extra_is : (widths : List ℕ) → extra ≡ extra_of widths n
 
 -- the kinds of joins
-pub kind_again : (k : ℕ) → 1 ≤ k → k ≤ 4 → k ≡ kind_word (kind_of k)
-unfolding kind_of
-kind_again k g h = in_range_lem (λ j. j ≡ kind_word (kind_of j)) 1 4 (more refl (more refl (more refl (more refl done)))) k g (omega arith)
+abbrev pub coded : Kind → JoinKind
+coded inner = Inner
+coded semi = Semi
+coded anti = Anti
+coded left_outer = LeftOuter
+
+pub coded_back : (k : Kind) → meant_kind (coded k) ≡ k
+coded_back inner = refl
+coded_back semi = refl
+coded_back anti = refl
+coded_back left_outer = refl
 
 pub conjuncts_all : (xs : List Item) → Every (λ x. conjunct_right x ≡ true) xs → conjuncts_in xs ≡ map conjunct_of xs
 conjuncts_all xs t = ap (map conjunct_of) (keep_all is_conjunct (every_map (λ x e. (both (is_conjunct x) _ e).0) t))

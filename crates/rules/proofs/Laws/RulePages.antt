@@ -1,63 +1,75 @@
 -- The pages behind the nodes that a rule emits.
-use mathlib.Core.Path.{◌≡◌, refl, sym, ◌∙◌}
-use mathlib.Core.Bool.{Bool, true, false}
+use mathlib.Core.Path.{◌≡◌, refl, sym}
 use mathlib.Core.Logic.{◌⊎◌, inl, inr}
 use mathlib.Core.List.{List, [], ◌∷◌, ◌++◌, map, append-nil}
-use Prim.Native.Nat.{ℕ, ◌+◌, ◌-◌, ◌<◌, ◌≤◌, pred}
+use Prim.Native.Nat.{ℕ, ◌+◌}
 use native.Mathlib.Omega.{arith}
-use lib.Dec.{eqb}
-use lib.ListN.{length, length-append, get_or-eq_default}
-use borrow.Author.Tests.{eqb-true, eqb-false, ne_eqb}
+use lib.ListN.{length, length-append}
+use borrow.Author.Tests.{ne_eqb}
 use Rattle.algebra.specs.Lists.{keep}
-use Rattle.algebra.specs.Plan.{inner, semi, anti, left_outer, Node, project, group}
+use Rattle.algebra.specs.Plan.{Node, project, group}
 use Rattle.algebra.specs.Domains.{around, span}
 use Rattle.algebra.specs.Rewriting.{Placed, emit, dropping}
 use Rattle.algebra.proofs.Lists.Keep.{map_append}
 use Rattle.plan.specs.Words.{operator, first_item, item_count, items_from}
 use Rattle.plan.specs.Items.{between}
-use Rattle.plan.specs.Plan.{kind_of}
-use Rattle.plan.specs.Encoding.{parts, all_items, position_words}
-use Rattle.pages.specs.declared.page.Cursor.{Cursor}
+use Rattle.plan.specs.Codes.{meant_kind}
+use Rattle.plan.specs.declared.kinds.JoinKind.{JoinKind}
+use Rattle.plan.specs.declared.kinds.JoinKind.TheVariants.{Inner, Semi, Anti, LeftOuter}
+use Rattle.plan.specs.declared.operator.Operator.TheVariants.{Project, Group}
+use Rattle.plan.specs.Encoding.{position_words}
 use Rattle.pages.specs.declared.page.Head.{Head}
-use Rattle.pages.specs.Pages.{Fits, Page, Added, Pushed, Grows, Drops, head_of, sheet}
+use Rattle.pages.specs.declared.page.OverLimits.{OverLimits}
+use Rattle.pages.specs.declared.page.Page.{Page}
+use Rattle.pages.specs.Pages.{Fits, Holds, Wrote, Missed, Pushed, Grows, Drops, head_of}
 use Rattle.rules.specs.Under.{conjunct_count}
-use Rattle.pages.proofs.Laws.Pages.{fits_front, fits_fewer, added_then}
+use Rattle.pages.proofs.Laws.Pages.{fits_before, fits_front, over}
+use Rattle.rules.proofs.Laws.AppendedNodes.{Extends, extends_dropping}
 use Rattle.rules.proofs.Laws.RuleItems.{Written}
+use Rattle.std.specs.Prelude.{None, Result, Ok, Err, IsErr}
 
 -- ---- one node more
 
--- the items of the next node begin behind those of the others
-pub first_of : (widths nodes items items' rows : List ℕ) (c c' : Cursor) (out : List Node) (new : List (List ℕ)) → Page widths nodes items rows c out []
-    → Page widths nodes items' rows c' out new
-    → c'.ok ≡ true → c.items ≡ length (all_items out)
-first_of widths nodes items items' rows c c' out new p q t = go c.ok refl
-  where
-    go : (b : Bool) → c.ok ≡ b → c.items ≡ length (all_items out)
-    go true e = omega (arith, (p.holds e).listed)
-    go false e = absurd (p.over e (fits_fewer widths out [] new (q.holds t).fits))
+-- more nodes are too much where the first of them are
+pub over_more : {widths : List ℕ} {out more : List Node} → Extends out more → (Fits widths out [] → ⊥) → Fits widths more [] → ⊥
+over_more {out} e f t = f (fits_front out e.rest (rw e.is at t))
 
-pub grows : {nodes nodes' items items' rows rows' : List ℕ} {c c₁ c' : Cursor} {head : Head} {extra : ℕ} (new : List (List ℕ)) (n : Node)
-    → Added items items' c c₁ new → Pushed nodes nodes' rows rows' c₁ c' c.items head extra → Written new head extra n
-    → Grows (sheet nodes items rows c) (sheet nodes' items' rows' c') (λ out. out ++ (n ∷ []))
-grows {nodes} {nodes'} {items} {items'} {rows} {rows'} {c} {c₁} {c'} {head} {extra} new n added pushed w widths out p =
-    let q : Page widths nodes items' rows c₁ out (parts n).items = rw w.items at (added widths nodes rows out [] p) in
-    pushed widths items' out n q
-    (record {
-      operator = w.operator;
-      left = w.left;
-      right = w.right;
-      kind = w.kind;
-      extra_is = w.extra_is widths;
-      first_is = first_of widths nodes items items' rows c c₁ out (parts n).items p q;
-    })
+-- items, and then the node that they are of
+module _ {p q : Page} {head : Head} {extra : ℕ} (new : List (List ℕ)) (n : Node) (w : Written new head extra n) where
+  pub grows : Wrote p q new → (r : Page) (result : Result ℕ OverLimits) → Pushed q r result p.item_count head extra → Grows p r result (λ out. out ++ (n ∷ []))
+  grows wrote r result pushed = record {
+    written = λ widths out h.
+        pushed.written widths out n (rw w.items at (wrote.holds widths out [] h))
+        (record {
+          operator = w.operator;
+          left = w.left;
+          right = w.right;
+          kind = w.kind;
+          extra_is = w.extra_is widths;
+          first_is = omega (arith, h.listed);
+        });
+  }
+
+-- the first of the items are too much
+pub missed_over : {p : Page} {head : Head} {extra : ℕ} {widths : List ℕ} {out : List Node} (new : List (List ℕ)) (n : Node) → Written new head extra n
+    → Missed p new → Holds widths p out [] → Fits widths (out ++ (n ∷ [])) [] → ⊥
+missed_over {widths = widths} {out = out} new n w m h t = m.over widths out [] h (rw (w.items) (fits_before out n t))
+
+pub grows_over : {p : Page} (f : List Node → List Node) → ((widths : List ℕ) (out : List Node) → Holds widths p out [] → Fits widths (f out) [] → ⊥)
+    → (r : Page) (result : Result ℕ OverLimits) → IsErr result → Grows p r result f
+grows_over f g r result e = record { written = λ widths out h. over widths r (f out) result e (g widths out h) }
+
+pub grows_missed : {p : Page} {head : Head} {extra : ℕ} (new : List (List ℕ)) (n : Node) → Written new head extra n → Missed p new
+    → (r : Page) (result : Result ℕ OverLimits) → IsErr result → Grows p r result (λ out. out ++ (n ∷ []))
+grows_missed new n w m = grows_over (λ out. out ++ (n ∷ [])) (λ widths out h. missed_over new n w m h)
 
 -- the same by another name
-pub grows_as : {nodes nodes' items items' rows rows' : List ℕ} {c c' : Cursor} (f g : List Node → List Node) → ((out : List Node) → f out ≡ g out)
-    → Grows (sheet nodes items rows c) (sheet nodes' items' rows' c') f → Grows (sheet nodes items rows c) (sheet nodes' items' rows' c') g
-grows_as f g e h widths out p = rw (e out) at (h widths out p)
+pub grows_as : {p r : Page} {result : Result ℕ OverLimits} (f g : List Node → List Node) → ((out : List Node) → f out ≡ g out)
+    → Grows p r result f → Grows p r result g
+grows_as f g e h = record { written = λ widths out t. rw (e out) at (h.written widths out t) }
 
 -- a domain over keys
-pub domain_written : (ks : List ℕ) (i : ℕ) → Written (map (position_words 11) ks) (head_of 6 i 0 0) 0 (group ks [] i)
+pub domain_written : (ks : List ℕ) (i : ℕ) → Written (map (position_words 11) ks) (head_of Group i 0 None) 0 (group ks [] i)
 domain_written ks i = record {
   items = sym (append-nil (map (position_words 11) ks));
   operator = refl;
@@ -69,72 +81,77 @@ domain_written ks i = record {
 
 -- ---- the project behind a join
 
--- what is over stays over, whatever comes behind
-over_other : {widths nodes items rows : List ℕ} {c : Cursor} (out more other : List Node) → (Fits widths out [] → ⊥)
-    → Page widths nodes items rows c (out ++ more) [] → Page widths nodes items rows c (out ++ other) []
-over_other {widths} out more other f p = record {
-  holds = λ t. absurd (f (fits_front widths out more (p.holds t).fits));
-  over = λ t g. f (fits_front widths out other g);
+-- the kinds that have one
+kept_kind : (k : JoinKind) (ps : List ℕ) (x : Placed) → (k ≡ Semi) ⊎ (k ≡ Anti) → dropping (meant_kind k) ps x ≡ x
+kept_kind k ps x (inl e) = rw e
+kept_kind k ps x (inr e) = rw e
+
+dropped_kind : (k : JoinKind) (ps : List ℕ) (x : Placed) → (k ≡ Inner) ⊎ (k ≡ LeftOuter) → dropping (meant_kind k) ps x ≡ emit (project ps x.at) x.out
+dropped_kind k ps x (inl e) = rw e
+dropped_kind k ps x (inr e) = rw e
+
+pub columns_kept : (p : Page) (k : JoinKind) (n m w i : ℕ) → (k ≡ Semi) ⊎ (k ≡ Anti) → Drops k n m w i p p (Ok i)
+columns_kept p k n m w i h = record {
+  written = λ widths out x held e. rw (kept_kind k (around n m w) (emit x out) h) (held, omega (arith, length-append out (x ∷ [])));
 }
 
--- the kinds that have one
-pub kept_kind : (k : ℕ) (ps : List ℕ) (x : Placed) → 2 ≤ k → k < 4 → dropping (kind_of k) ps x ≡ x
-unfolding kind_of
-kept_kind k ps x g h = go (eqb k 2) refl
-  where
-    go : (b : Bool) → eqb k 2 ≡ b → dropping (kind_of k) ps x ≡ x
-    go true e = rw (eqb-true k 2 e)
-    go false e = let q : k ≡ 3 = omega (arith, eqb-false k 2 e) in rw q
+-- the project is written
+projected : (n m w i : ℕ) → Written (map (position_words 12) (span 0 n) ++ map (position_words 12) (span (n + m) w)) (head_of Project i 0 None) 0 (project (around n m w) i)
+projected n m w i = record {
+  items = sym (map_append (position_words 12) (span 0 n) (span (n + m) w));
+  operator = refl;
+  left = refl;
+  right = refl;
+  kind = refl;
+  extra_is = λ widths. refl;
+}
 
-dropped_kind : (k : ℕ) (ps : List ℕ) (x : Placed) → (k < 2) ⊎ (4 ≤ k) → dropping (kind_of k) ps x ≡ emit (project ps x.at) x.out
-unfolding kind_of
-dropped_kind k ps x (inl h) = let q : k - 1 ≡ 0 = omega arith in rw q
-dropped_kind k ps x (inr h) = go (eqb k 4) refl
-  where
-    go : (b : Bool) → eqb k 4 ≡ b → dropping (kind_of k) ps x ≡ emit (project ps x.at) x.out
-    go true e = rw (eqb-true k 4 e)
-    go false e = let n = eqb-false k 4 e in rw (get_or-eq_default (inner ∷ semi ∷ anti ∷ left_outer ∷ []) inner {n = k - 1} (omega arith))
+-- its columns
+abbrev pub columns_around : ℕ → ℕ → ℕ → List (List ℕ)
+columns_around n m w = map (position_words 12) (span 0 n) ++ map (position_words 12) (span (n + m) w)
 
-pub columns_kept : {nodes items rows : List ℕ} {c : Cursor} (k n m w : ℕ) → 2 ≤ k → k < 4 → Drops k n m w (sheet nodes items rows c) (sheet nodes items rows c)
-columns_kept k n m w g h widths out x p = rw (kept_kind k (around n m w) (emit x out) g h) p
+module _ {p : Page} (k : JoinKind) (n m w i : ℕ) (h : (k ≡ Inner) ⊎ (k ≡ LeftOuter)) where
+  pub columns_dropped : {q r : Page} {result : Result ℕ OverLimits} → Wrote p q (columns_around n m w) → Pushed q r result p.item_count (head_of Project i 0 None) 0
+      → Drops k n m w i p r result
+  columns_dropped {q} {r} {result} wrote pushed = record {
+    written = λ widths out x held e.
+        rw (dropped_kind k (around n m w) (emit x out) h, ← e)
+        ((grows (columns_around n m w) (project (around n m w) i) (projected n m w i) wrote r result pushed).written widths (out ++ (x ∷ [])) held);
+  }
 
-pub columns_dropped : {nodes nodes' items items₁ items' rows rows' : List ℕ} {c c₁ c₂ c' : Cursor} (k n m w at : ℕ) → (k < 2) ⊎ (4 ≤ k) → at ≡ pred c.nodes
-    → Added items items₁ c c₁ (map (position_words 12) (span 0 n)) → Added items₁ items' c₁ c₂ (map (position_words 12) (span (n + m) w))
-    → Pushed nodes nodes' rows rows' c₂ c' c.items (head_of 4 at 0 0) 0 → Drops k n m w (sheet nodes items rows c) (sheet nodes' items' rows' c')
-columns_dropped {nodes} {nodes'} {items} {items₁} {items'} {rows} {rows'} {c} {c₁} {c₂} {c'} k n m w at h e first second pushed widths out x p =
-    rw (dropped_kind k (around n m w) (emit x out) h) (go c.ok refl)
-  where
-    front : List Node
-    front = out ++ (x ∷ [])
-
-    written : Written (map (position_words 12) (span 0 n) ++ map (position_words 12) (span (n + m) w)) (head_of 4 at 0 0) 0 (project (around n m w) at)
-    written = record {
-      items = sym (map_append (position_words 12) (span 0 n) (span (n + m) w));
-      operator = refl;
-      left = refl;
-      right = refl;
-      kind = refl;
-      extra_is = λ widths. refl;
-    }
-
-    page : Page widths nodes' items' rows' c' (front ++ (project (around n m w) at ∷ [])) []
-    page = grows _ (project (around n m w) at) (added_then _ _ first second) pushed written widths front p
-
-    go : (b : Bool) → c.ok ≡ b → Page widths nodes' items' rows' c' (front ++ (project (around n m w) (length out) ∷ [])) []
-    go true t = let q : at ≡ length out = omega (arith, (p.holds t).count, length-append out (x ∷ [])) in rw q at page
-    go false t = over_other front _ _ (p.over t) page
+  pub columns_missed : Missed p (columns_around n m w) → (r : Page) (result : Result ℕ OverLimits) → IsErr result → Drops k n m w i p r result
+  columns_missed missed r result t = record {
+    written = λ widths out x held e.
+        rw (dropped_kind k (around n m w) (emit x out) h, ← e)
+        ((grows_missed (columns_around n m w) (project (around n m w) i) (projected n m w i) missed r result t).written widths (out ++ (x ∷ [])) held);
+  }
 
 -- a join and its project
-pub drops : {nodes nodes₁ nodes' items items₁ items' rows rows₁ rows' : List ℕ} {c c₁ c' : Cursor} (k n m w : ℕ) (x : Node)
-    → Grows (sheet nodes items rows c) (sheet nodes₁ items₁ rows₁ c₁) (λ out. out ++ (x ∷ [])) → Drops k n m w (sheet nodes₁ items₁ rows₁ c₁) (sheet nodes' items' rows' c')
-    → Grows (sheet nodes items rows c) (sheet nodes' items' rows' c') (λ out. (dropping (kind_of k) (around n m w) (emit x out)).out)
-drops k n m w x g h widths out p = h widths out x (g widths out p)
+module _ (k : JoinKind) (n m w : ℕ) (x : Node) where
+  abbrev pub both : List Node → List Node
+  both out = (dropping (meant_kind k) (around n m w) (emit x out)).out
+
+  pub drops : {p q r : Page} {i : ℕ} {result : Result ℕ OverLimits} → Grows p q (Ok i) (λ out. out ++ (x ∷ [])) → Drops k n m w i q r result → Grows p r result both
+  drops g h = record {
+    written = λ widths out t.
+        let held = g.written widths out t in
+        h.written widths out x held.0 (omega (arith, held.1, length-append out (x ∷ [])));
+  }
+
+  -- the join is too much
+  pub drops_over : {p q : Page} {e : OverLimits} → Grows p q (Err e) (λ out. out ++ (x ∷ [])) → (r : Page) (result : Result ℕ OverLimits) → IsErr result → Grows p r result both
+  drops_over g = grows_over both (λ widths out t. over_more (extends_dropping (meant_kind k) (around n m w) (emit x out)) (g.written widths out t))
+
+  pub drops_missed : {p : Page} {head : Head} {extra : ℕ} (new : List (List ℕ)) → Written new head extra x → Missed p new
+      → (r : Page) (result : Result ℕ OverLimits) → IsErr result → Grows p r result both
+  drops_missed new f g =
+      grows_over both (λ widths out t. over_more (extends_dropping (meant_kind k) (around n m w) (emit x out)) (missed_over new x f g t))
 
 -- ---- how many conjuncts
 
-module _ (ws : List ℕ) (n o count : ℕ) (e : o ≡ operator ws n) (f : count ≡ item_count ws n) where
-  pub count_some : (a r : ℕ) → o ≡ 7 → a ≡ first_item ws n → r ≡ length (keep (λ x. between 1 7 x.tag) (items_from ws a count)) → r ≡ conjunct_count ws n
-  count_some a r g h q = let s : operator ws n ≡ 7 = sym e ∙ g in rw (s, ← f, ← h) q
+module _ (ws : List ℕ) (n count : ℕ) (f : count ≡ item_count ws n) where
+  pub count_some : (a r : ℕ) → operator ws n ≡ 7 → a ≡ first_item ws n → r ≡ length (keep (λ x. between 1 7 x.tag) (items_from ws a count)) → r ≡ conjunct_count ws n
+  count_some a r g h q = rw (g, ← f, ← h) q
 
-  pub count_all : (o ≡ 7 → ⊥) → count ≡ conjunct_count ws n
-  count_all g = rw (ne_eqb (operator ws n) 7 (λ s. g (e ∙ s))) f
+  pub count_all : (operator ws n ≡ 7 → ⊥) → count ≡ conjunct_count ws n
+  count_all g = rw (ne_eqb (operator ws n) 7 g) f

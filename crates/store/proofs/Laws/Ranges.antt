@@ -1,23 +1,21 @@
 -- The test of a cell's range, and of all cells of a list; and the sizes of numbers.
 use mathlib.Core.Path.{◌≡◌, refl, sym, ap, ◌∙◌}
-use mathlib.Core.Bool.{Bool, true, false, not, and-false, true≢false}
+use mathlib.Core.Bool.{Bool, true, false, ◌&&◌, not, true≢false}
 use mathlib.Core.List.{List, [], ◌∷◌}
 use Prim.Native.Nat.{ℕ, suc, ◌+◌, ◌-◌, ◌^◌, ◌<◌, ◌≤◌}
-use native.Mathlib.Numerals.{add-one}
 use native.Mathlib.Omega.{arith}
 use lib.Dec.{ltb, leb}
 use lib.IntN.{ℤ, pos, negsuc, nat_abs, sub_ℕ, ◌+ℤ◌}
-use lib.ListN.{length, get_or, take, drop}
-use lib.Seq.{take-suc, take_all, split_at}
+use lib.ListN.{get_or}
 use lib.Signed.{lt_z, le_z}
 use mir.Syntax.{w64}
 use mir.Val.{SFits, to_z, of_z}
 use mir.ValLaws.{to_z-of_z}
-use borrow.Author.Tests.{ltb-true, ltb-false, leb-true, leb-false, lt-ltb, le-ltb, not-true, not-false}
+use borrow.Author.Tests.{ltb-true, ltb-false, leb-true, leb-false, lt-ltb, le-ltb}
+use Rattle.std.specs.List.{list_all}
 use Rattle.algebra.specs.Lists.{all}
 use Rattle.algebra.specs.Value.{null, num, Row}
 use Rattle.algebra.proofs.Lists.Every.{every_at}
-use Rattle.plan.proofs.Laws.Loops.{all_append}
 use Rattle.plan.proofs.Laws.Numbered.{every_all}
 use Rattle.store.specs.Cells.{null_cell, value, in_range}
 use Rattle.store.proofs.Laws.Bits.{bits_null, other_number}
@@ -45,15 +43,31 @@ high (pos n) h e = go (leb n (2 ^ 47 - 1)) refl
     go false q = q ∙ sym (le-ltb n (2 ^ 47) (omega (arith, leb-false n (2 ^ 47 - 1) q)))
 high (negsuc n) h e = rw (other_number (negsuc n) h) (sym (lt-ltb n (2 ^ 47 - 1) (omega (arith, ltb-false (2 ^ 47 - 2) n e))))
 
+-- a number at most another, or above it
+turned : (a b : ℕ) → ltb b a ≡ not (leb a b)
+turned a b = go (leb a b) refl
+  where
+    go : (t : Bool) → leb a b ≡ t → ltb b a ≡ not t
+    go true e = le-ltb b a (leb-true a b e)
+    go false e = lt-ltb b a (leb-false a b e)
+
+turned_less : (a b : ℤ) → lt_z b a ≡ not (le_z a b)
+turned_less (pos a) (pos b) = turned a b
+turned_less (pos a) (negsuc b) = refl
+turned_less (negsuc a) (pos b) = refl
+turned_less (negsuc a) (negsuc b) = turned b a
+
 module _ (x : ℤ) (fits : SFits w64 x) (other : of_z w64 x ≡ 2 ^ 63 → ⊥) where
   no_null : x ≡ null_cell → ⊥
   no_null e = other (ap (of_z w64) e)
 
-  pub low_ranged : lt_z (to_z w64 (of_z w64 x)) (negsuc (2 ^ 47 - 2)) ≡ true → false ≡ in_range (value x)
-  low_ranged e = low x no_null (rw (to_z-of_z w64 x fits) at e)
+  pub low_ranged : le_z (negsuc (2 ^ 47 - 2)) (to_z w64 (of_z w64 x)) ≡ false → false ≡ in_range (value x)
+  low_ranged e = low x no_null (turned_less (negsuc (2 ^ 47 - 2)) x ∙ ap not (rw (to_z-of_z w64 x fits) at e))
 
-  pub high_ranged : lt_z (to_z w64 (of_z w64 x)) (negsuc (2 ^ 47 - 2)) ≡ false → le_z (to_z w64 (of_z w64 x)) (pos (2 ^ 47 - 1)) ≡ in_range (value x)
-  high_ranged e = ap (λ (z : ℤ). le_z z (pos (2 ^ 47 - 1))) (to_z-of_z w64 x fits) ∙ high x no_null (rw (to_z-of_z w64 x fits) at e)
+  pub high_ranged : le_z (negsuc (2 ^ 47 - 2)) (to_z w64 (of_z w64 x)) ≡ true → le_z (to_z w64 (of_z w64 x)) (pos (2 ^ 47 - 1)) ≡ in_range (value x)
+  high_ranged e =
+      ap (λ (z : ℤ). le_z z (pos (2 ^ 47 - 1))) (to_z-of_z w64 x fits)
+      ∙ high x no_null (turned_less (negsuc (2 ^ 47 - 2)) x ∙ ap not (rw (to_z-of_z w64 x fits) at e))
 
 -- ---- sizes
 
@@ -89,23 +103,8 @@ pub entry_ranged : (r : Row) (p : ℕ) → all in_range r ≡ true → in_range 
 unfolding in_range
 entry_ranged r p e = every_at {P = λ v. in_range v ≡ true} null refl (every_all in_range r e) p
 
--- ---- the first elements of a list pass
+-- ---- what `all` answers
 
-module _ {A : Type 0} (p : A → Bool) (xs : List A) (i : ℕ) (d : A) where
-  pub front_more : all p (take i xs) ≡ true → i < length xs → p (get_or xs i d) ≡ true → all p (take (i + 1) xs) ≡ true
-  front_more e h q = rw (add-one i, take-suc xs i d h, all_append p (take i xs) (get_or xs i d ∷ []), e, q)
-
-  pub front_fails : i < length xs → p (get_or xs i d) ≡ false → false ≡ all p xs
-  front_fails h q = sym (ap (all p) (split_at xs i d h) ∙ all_append p (take i xs) (get_or xs i d ∷ drop (suc i) xs) ∙ rw q (and-false (all p (take i xs))))
-
-  pub front_whole : all p (take i xs) ≡ true → length xs ≤ i → true ≡ all p xs
-  front_whole e h = sym (rw (take_all i xs h) at e)
-
--- the same of cells, where the code read cell i as z and tested it
-module _ (p : ℤ → Bool) (xs : List ℤ) (i : ℕ) where
-  pub one_fails : {b : Bool} (z : ℤ) → z ≡ get_or xs i (pos 0) → b ≡ p z → not b ≡ true → i < length xs → false ≡ all p xs
-  one_fails {b} z q e h l = front_fails p xs i (pos 0) l (ap p (sym q) ∙ sym e ∙ not-true b h)
-
-  pub one_passes : {b : Bool} (z : ℤ) → z ≡ get_or xs i (pos 0) → b ≡ p z → not b ≡ false → i < length xs → all p (take i xs) ≡ true
-      → all p (take (i + 1) xs) ≡ true
-  one_passes {b} z q e h l a = front_more p xs i (pos 0) a l (ap p (sym q) ∙ sym e ∙ not-false b h)
+pub all_listed : {A : Type 0} (p : A → Bool) (xs : List A) → list_all p xs ≡ all p xs
+all_listed p [] = refl
+all_listed p (x ∷ xs) = ap (λ (b : Bool). p x && b) (all_listed p xs)

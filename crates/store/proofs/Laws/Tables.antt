@@ -54,13 +54,13 @@ start_before ws counts t zero = rw (add-zero t) (omega arith)
 start_before ws counts t (suc d) = rw (add-suc t d) (omega (arith, start_next ws counts (t + d), start_before ws counts t d))
 
 -- one table more, as the code reads it
-module _ (ws counts : List ℕ) (i : ℕ) {k c v w : ℕ} (ek : k ≡ i) (ec : c ≡ get_or counts k 0) (ev : v ≡ table_width ws i) (ew : w ≡ v) where
-  pub start_more : {at : ℕ} → at ≡ table_start ws counts i → at + c * w ≡ table_start ws counts (i + 1)
-  start_more ea = rw (add-one i, start_next ws counts i, ea, ec, ek, ew, ev)
+module _ (ws counts : List ℕ) (i : ℕ) {w : ℕ} (ew : w ≡ table_width ws i) where
+  pub start_more : {at : ℕ} → at ≡ table_start ws counts i → at + get_or counts i 0 * w ≡ table_start ws counts (i + 1)
+  start_more ea = rw (add-one i, start_next ws counts i, ea, ew)
 
   -- no table has more than 64×4096 cells
-  pub table_small : all (λ c. leb c 4096) counts ≡ true → Sized ws → i < tables ws → c * w ≤ 262144
-  table_small e s h = rw (ec, ek, ew, ev) (mul-le-mul (count_few counts e i) (table_narrow ws s i h))
+  pub table_small : all (λ c. leb c 4096) counts ≡ true → Sized ws → i < tables ws → get_or counts i 0 * w ≤ 262144
+  table_small e s h = rw ew (mul-le-mul (count_few counts e i) (table_narrow ws s i h))
 
 -- ---- refusal 10
 
@@ -84,8 +84,8 @@ module _ (ws counts : List ℕ) (cells : List ℤ) where
   database_fails : (Right ws counts cells → ⊥) → false ≡ database_right ws counts cells
   database_fails f = refuted (database_right ws counts cells) (λ e. f (database_says ws counts cells e))
 
-  pub counts_wrong : {m n : ℕ} → m ≡ tables ws → n ≡ m → (length counts ≡ n → ⊥) → false ≡ database_right ws counts cells
-  counts_wrong em en h = database_fails (λ r. h (r.long ∙ sym (en ∙ em)))
+  pub counts_wrong : {m : ℕ} → m ≡ tables ws → (length counts ≡ m → ⊥) → false ≡ database_right ws counts cells
+  counts_wrong em h = database_fails (λ r. h (r.long ∙ sym em))
 
   pub counts_high : {r : Bool} → r ≡ all (λ c. leb c 4096) counts → not r ≡ true → false ≡ database_right ws counts cells
   counts_high {r} er h = database_fails (λ a. true≢false (sym (er ∙ a.few) ∙ not-true r h))
@@ -93,13 +93,13 @@ module _ (ws counts : List ℕ) (cells : List ℤ) where
   pub cells_wrong : {k s : ℕ} → k ≡ tables ws → s ≡ table_start ws counts k → (length cells ≡ s → ⊥) → false ≡ database_right ws counts cells
   cells_wrong ek es h = database_fails (λ a. h (a.whole ∙ sym (rw ek at es)))
 
-  pub cells_decide : {m n : ℕ} → m ≡ tables ws → n ≡ m → length counts ≡ n → {r : Bool} → r ≡ all (λ c. leb c 4096) counts → not r ≡ false
+  pub cells_decide : {m : ℕ} → m ≡ tables ws → length counts ≡ m → {r : Bool} → r ≡ all (λ c. leb c 4096) counts → not r ≡ false
       → {k s : ℕ} → k ≡ tables ws → s ≡ table_start ws counts k → length cells ≡ s → {a : Bool} → a ≡ all (λ z. in_range (value z)) cells → a ≡ database_right
       ws counts cells
   unfolding database_right
-  cells_decide em en l {r} er hr ek es h ea =
+  cells_decide em l {r} er hr ek es h ea =
       sym (rw
-      (eq-eqb (length counts) (tables ws) (l ∙ en ∙ em), sym er, not-false r hr, eq-eqb (length cells) (table_start ws counts (tables ws)) (h ∙ (rw ek at es)))
+      (eq-eqb (length counts) (tables ws) (l ∙ em), sym er, not-false r hr, eq-eqb (length cells) (table_start ws counts (tables ws)) (h ∙ (rw ek at es)))
       (sym ea))
 
 -- ---- the rows of a table

@@ -1,26 +1,16 @@
 -- Digits read one by one from a place of a text.
 use mathlib.Core.Path.{◌≡◌, refl, sym, ap, ◌∙◌}
-use mathlib.Core.Bool.{Bool, true, false, not, cond, ◌&&◌, true≢false}
+use mathlib.Core.Bool.{Bool, true, false, cond, ◌&&◌, true≢false}
 use mathlib.Core.List.{List, [], ◌∷◌}
 use Prim.Native.Nat.{ℕ, ◌+◌, ◌-◌, ◌*◌, ◌^◌, ◌<◌, ◌≤◌}
 use native.Mathlib.Omega.{arith}
-use borrow.Author.Tests.{eq-eqb, ne_eqb, le-leb, not-true, not-false}
-use lib.Dec.{leb}
+use borrow.Author.Tests.{eq-eqb, ne_eqb}
 use lib.ListN.{length, get_or, drop, drop_of_length-le}
-use lib.Seq.{get_or-drop}
+use lib.Seq.{get_or-drop, drop-length}
 use Rattle.plan.specs.Items.{between}
 use Rattle.plan.proofs.Laws.Header.{between_holds, between_says, between_fails}
 use Rattle.text.specs.Reading.{Front, found, bad, and_then, digits_on, number_in, ended_by, word_in, constant_in}
-use Rattle.text.specs.declared.numbers.Digits.{Digits}
-use Rattle.text.specs.Steps.{SaysUpTo}
 use Rattle.text.proofs.Laws.Places.{inside, behind_place}
-
--- a byte is a digit, or not
-pub digit_low : (b : ℕ) → b < 48 → false ≡ between 48 57 b
-digit_low b h = sym (between_fails 48 57 b (λ g. omega (arith, g.0)))
-
-pub digit_high : (b : ℕ) → 48 ≤ b → leb b 57 ≡ between 48 57 b
-digit_high b h = rw (le-leb 48 b h)
 
 -- ---- a number that is not in range, or not ended
 
@@ -50,6 +40,16 @@ over_digits low high e (b ∷ bs) v h = go (between 48 57 b) (over_digits low hi
         → ended_by low high e (cond t (digits_on (10 * v + (b - 48)) bs) (found v (b ∷ bs))) ≡ bad
     go true ih = ih
     go false ih = over_high low high e v (b ∷ bs) h
+
+-- past the end there are no digits
+pub digits_out : (text : List ℕ) (i v : ℕ) → length text ≤ i → digits_on v (drop i text) ≡ found v (drop (length text) text)
+unfolding digits_on
+digits_out text i v h = rw (drop_of_length-le text h, drop-length text)
+
+-- a word is no more than its number
+pub no_word : (low high e : ℕ) (bs : List ℕ) → number_in bs ≡ bad → word_in low high e bs ≡ bad
+unfolding ended_by
+no_word low high e bs h = rw h
 
 module _ (text : List ℕ) (i b : ℕ) (is : b ≡ get_or text i 0) where
   -- what is behind a place is nothing, or b and more
@@ -128,13 +128,7 @@ module _ (text : List ℕ) (low high e v next : ℕ) where
     unfolding ended_by
     right_end q l u = rw (behind_place text next b is h, eq-eqb b e q, between_holds low high v l u)
 
--- ---- what the code knows of a byte and of a number so far
-
-pub is_digit : (b : ℕ) {r : Bool} → r ≡ between 48 57 b → not r ≡ false → between 48 57 b ≡ true
-is_digit b {r} e h = sym e ∙ not-false r h
-
-pub is_none : (b : ℕ) {r : Bool} → r ≡ between 48 57 b → not r ≡ true → between 48 57 b ≡ false
-is_none b {r} e h = sym e ∙ not-true r h
+-- ---- what the code knows of a number so far
 
 -- two fronts that are equal say the same
 pub said : (high : ℕ) {front other : Front ℕ} → front ≡ other → (low e : ℕ) → ended_by low high e other ≡ ended_by low high e front
@@ -143,14 +137,3 @@ said high q low e = sym (ap (λ (f : Front ℕ). ended_by low high e f) q)
 -- digits whose value is past high say too much already
 pub said_over : (high v : ℕ) (bs : List ℕ) {front : Front ℕ} → front ≡ digits_on v bs → high < v → (low e : ℕ) → ended_by low high e (found v bs) ≡ ended_by low high e front
 said_over high v bs q h low e = over_high low high e v bs h ∙ sym (ap (λ (f : Front ℕ). ended_by low high e f) q ∙ over_digits low high e bs v h)
-
--- a value past high for no number at all
-pub said_none : (high v : ℕ) (bs : List ℕ) {front : Front ℕ} → front ≡ bad → high < v → (low e : ℕ) → ended_by low high e (found v bs) ≡ ended_by low high e front
-unfolding ended_by
-said_none high v bs q h low e = over_high low high e v bs h ∙ sym (ap (λ (f : Front ℕ). ended_by low high e f) q)
-
--- the number that stands at a place, once its digits are read
-module _ (text : List ℕ) (at low top high e : ℕ) (d : Digits) where
-  pub word_says : top ≡ high → SaysUpTo text top d (number_in (drop at text)) → {x : Front ℕ} → ended_by low high e (found d.value (drop d.next text)) ≡ x
-      → x ≡ word_in low high e (drop at text)
-  word_says q s h = sym h ∙ rw q at s low e

@@ -8,9 +8,8 @@ use lib.ListN.{length, take, replicate, length-replicate}
 use Rattle.algebra.specs.Lists.{Every, done, more}
 use Rattle.algebra.proofs.Lists.Every.{every_head, every_append}
 use Rattle.text.specs.declared.form.Form.{Form}
-use Rattle.text.specs.declared.form.Sizes.{Sizes}
+use Rattle.text.specs.Reading.{Counts, Front, found, bad, constant_next, line_in, widths_form, node_form, item_form, forms, Lines, right, wrong, behind, line_then, lines_in}
 use Rattle.text.specs.Steps.{line_text, lines_text}
-use Rattle.text.specs.Reading.{Front, found, bad, constant_next, line_in, widths_form, node_form, item_form, forms, Lines, right, wrong, behind, line_then, lines_in}
 use Rattle.text.specs.Lines.{lines}
 use Rattle.text.proofs.Laws.Fits.{Allowed, WordsFit, none_left, one_more, BodyFits, no_row, one_row, Limited}
 use Rattle.text.proofs.Laws.Rows.{LineIs, line_read, line_is, line_first}
@@ -45,7 +44,7 @@ replicated : (form : Form) → Able form → (n : ℕ) → Every Able (replicate
 replicated form a zero = done
 replicated form a (suc n) = more a (replicated form a n)
 
-pub forms_able : (s : Sizes) → Limited s → Every Able (forms s)
+pub forms_able : (s : Counts) → Limited s → Every Able (forms s)
 unfolding forms
 forms_able s f = more widths (every_append (replicated node_form node s.nodes) (replicated item_form item s.items))
   where

@@ -6,8 +6,7 @@ use Prim.Native.Nat.{ℕ, ◌^◌, ◌<◌, ◌≤◌}
 use lib.ListN.{length}
 use Rattle.plan.specs.Words.{tables, nodes, items}
 use Rattle.text.specs.declared.form.Form.{Form}
-use Rattle.text.specs.declared.form.Sizes.{Sizes}
-use Rattle.text.specs.Reading.{constant_next}
+use Rattle.text.specs.Reading.{Counts, constant_next}
 
 -- a constant is any word, another number is within its line's range
 abbrev pub Allowed : Bool → Form → ℕ → Type 0
@@ -25,12 +24,12 @@ pub data BodyFits : List Form → List ℕ → Type 0 where
   one_row : {form : Form} {fs : List Form} {xs ws : List ℕ} → length xs ≡ form.count → WordsFit form [] xs → BodyFits fs ws → BodyFits (form ∷ fs) (xs ++ ws)
 
 -- T, N and I within their limits
-pub record Limited (s : Sizes) : Type 0 where
+pub record Limited (s : Counts) : Type 0 where
   pub tables_some : 1 ≤ s.tables
   pub tables_few : s.tables ≤ 16
   pub nodes_some : 1 ≤ s.nodes
   pub nodes_few : s.nodes ≤ 256
   pub items_few : s.items ≤ 2000
 
-abbrev pub sizes_of : List ℕ → Sizes
+abbrev pub sizes_of : List ℕ → Counts
 sizes_of ws = record { tables = tables ws; nodes = nodes ws; items = items ws }

@@ -1,53 +1,19 @@
 -- The form of each line, and what stands in it.
 use mathlib.Core.Path.{◌≡◌, refl, sym, ap, ◌∙◌}
-use mathlib.Core.Bool.{Bool, true, false, cond, ◌&&◌, ◌||◌}
+use mathlib.Core.Bool.{Bool, true, false, ◌&&◌, ◌||◌}
 use mathlib.Core.List.{List, [], ◌∷◌, ◌++◌, append-nil}
 use Prim.Native.Nat.{ℕ, zero, suc, ◌+◌, ◌-◌, ◌*◌, ◌<◌, ◌≤◌}
 use native.Mathlib.Nat.{mul-suc}
 use native.Mathlib.Omega.{arith}
 use native.Mathlib.Numerals.{add-one}
-use borrow.Author.Tests.{eq-eqb, ne_eqb, eqb-true, eqb-false, leb-true, leb-false}
+use borrow.Author.Tests.{eqb-true, eqb-false, leb-true, leb-false}
 use lib.Dec.{leb, eqb}
 use lib.ListN.{length, get_or, drop, replicate, length-append, length-replicate, get_or-replicate, get_or-append}
 use lib.Seq.{get_or-append-add, drop-cons}
 use Rattle.text.specs.declared.form.Form.{Form}
-use Rattle.text.specs.declared.form.Sizes.{Sizes}
-use Rattle.text.specs.Reading.{constant_next, widths_form, node_form, item_form, forms}
+use Rattle.text.specs.Reading.{Counts, constant_next, widths_form, node_form, item_form, forms}
 
--- the byte behind a number that is, or is not, its line's last
-pub last_ends : (j count : ℕ) → j + 1 ≡ count → ◌≡◌ {A = ℕ} 10 (cond (eqb (j + 1) count) 10 32)
-last_ends j count h = rw (eq-eqb (j + 1) count h)
-
-pub others_end : (j count : ℕ) → (j + 1 ≡ count → ⊥) → ◌≡◌ {A = ℕ} 32 (cond (eqb (j + 1) count) 10 32)
-others_end j count h = rw (ne_eqb (j + 1) count h)
-
--- a constant's place
-module _ (item : Bool) (j before : ℕ) where
-  abbrev pub here : Bool
-  here = item && ((eqb j 3 || eqb j 6) && eqb before 2)
-
-  pub no_item : item ≡ false → false ≡ here
-  no_item h = rw h
-
-  pub no_constant : (before ≡ 2 → ⊥) → false ≡ here
-  no_constant h = rw (ne_eqb before 2 h) (go item (eqb j 3 || eqb j 6))
-    where
-      go : (a b : Bool) → false ≡ (a && (b && false))
-      go true true = refl
-      go true false = refl
-      go false b = refl
-
-  pub first_term : item ≡ true → before ≡ 2 → j ≡ 3 → true ≡ here
-  first_term h b e = rw (h, eq-eqb before 2 b, eq-eqb j 3 e)
-
-  pub second_term : item ≡ true → before ≡ 2 → (j ≡ 3 → ⊥) → eqb j 6 ≡ here
-  second_term h b e = rw (h, eq-eqb before 2 b, ne_eqb j 3 e) (go (eqb j 6))
-    where
-      go : (t : Bool) → t ≡ (true && ((false || t) && true))
-      go true = refl
-      go false = refl
-
--- the same by the words before it
+-- a constant's place, by the words before it
 pub constant_here : (xs : List ℕ) (j before : ℕ) → length xs ≡ j → (2 ≤ j → before ≡ get_or xs (j - 2) 0) → constant_next xs ≡ ((eqb j 3 || eqb j 6) && eqb before 2)
 unfolding constant_next
 constant_here xs j before e h = rw e (by_place (eqb j 3) refl (eqb j 6) refl)
@@ -70,13 +36,13 @@ unfolding total
 total_more form zero fs = omega arith
 total_more form (suc n) fs = omega (arith, total_more form n fs, mul-suc form.count n)
 
-pub total_forms : (s : Sizes) → total (forms s) ≡ s.tables + 6 * s.nodes + 7 * s.items
+pub total_forms : (s : Counts) → total (forms s) ≡ s.tables + 6 * s.nodes + 7 * s.items
 unfolding total forms
 total_forms s =
     let i : total (replicate s.items item_form ++ []) ≡ 7 * s.items + 0 = total_more item_form s.items [] in
     omega (arith, rw append-nil at i, total_more node_form s.nodes (replicate s.items item_form))
 
-module _ (s : Sizes) where
+module _ (s : Counts) where
   pub forms_count : length (forms s) ≡ 1 + s.nodes + s.items
   unfolding forms
   forms_count =

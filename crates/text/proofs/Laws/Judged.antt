@@ -6,18 +6,10 @@ use native.Mathlib.Omega.{arith}
 use borrow.Author.Tests.{lt-ltb, le-ltb}
 use lib.ListN.{length, drop, drop_of_length-le}
 use lib.Seq.{sets, sets-eq, drop-cons}
-use Rattle.text.specs.declared.form.Sizes.{Sizes}
-use Rattle.text.specs.declared.lines.Judged.{Judged}
-use Rattle.text.specs.declared.lines.Judged.TheVariants.{Words, Bad}
-use Rattle.text.specs.declared.lines.Body.{Body}
-use Rattle.text.specs.declared.lines.Body.TheVariants.{End, BadAt}
-use Rattle.text.specs.declared.lines.Head.{Head}
-use Rattle.text.specs.declared.lines.Head.TheVariants.{Found, NoHead}
-use Rattle.text.specs.Reading.{found, bad, word_in, head_in, forms, right, wrong, lines_in, header, Given, words, bad_line, table_in, read}
-use Rattle.text.specs.Steps.{HeadRead, BodyRead, TableRead}
+use Rattle.text.specs.Reading.{Counts, found, bad, word_in, head_in, forms, right, lines_in, header, Given, words, bad_line, table_in, read}
+use Rattle.std.specs.Prelude.{Result, Ok, Err}
+use Rattle.text.specs.Steps.{TableRead}
 use Rattle.text.specs.Answers.{reading, words_after, taken, refused}
-use Rattle.text.proofs.Laws.Fits.{Limited}
-use Rattle.text.proofs.Laws.Rows.{head_is}
 use Rattle.text.proofs.Laws.Places.{sets_append}
 
 -- ---- the first line
@@ -41,25 +33,9 @@ module _ (text : List ℕ) where
       unfolding head_in
       head_found i e h = rw (tables, nodes, h)
 
-  -- what the code's answer says
-  pub head_of : {h : Head} {s : Sizes} {next : ℕ} → HeadRead text h → h ≡ Found s next → (head_in text ≡ found s (drop next text)) × (next ≤ length text)
-  head_of {h} {s} {next} r q = rw q at r
-
-  pub no_head_of : {h : Head} → HeadRead text h → h ≡ NoHead → head_in text ≡ bad
-  no_head_of {h} r q = rw q at r
-
-  pub sizes_limited : (s : Sizes) (next : ℕ) → head_in text ≡ found s (drop next text) → Limited s
-  sizes_limited s next e = (head_is text s (drop next text) e).0
-
 -- ---- the whole text
 
-pub no_table : (text : List ℕ) → head_in text ≡ bad → table_in (head_in text) ≡ bad_line 1
-no_table text h = rw h
-
-module _ (text : List ℕ) (s : Sizes) (at : ℕ) (head : head_in text ≡ found s (drop at text)) where
-  pub body_wrong : {l : ℕ} → lines_in (forms s) 2 (drop at text) ≡ wrong l → table_in (head_in text) ≡ bad_line l
-  body_wrong h = rw (head, h)
-
+module _ (text : List ℕ) (s : Counts) (at : ℕ) (head : head_in text ≡ found s (drop at text)) where
   module _ (ws : List ℕ) (next : ℕ) (body : lines_in (forms s) 2 (drop at text) ≡ right ws (drop next text)) where
     pub surplus : next < length text → table_in (head_in text) ≡ bad_line (3 + s.nodes + s.items)
     surplus h = rw (head, body, drop-cons text next 0 h)
@@ -67,15 +43,7 @@ module _ (text : List ℕ) (s : Sizes) (at : ℕ) (head : head_in text ≡ found
     pub all_read : length text ≤ next → table_in (head_in text) ≡ words (header s ++ ws)
     all_read h = rw (head, body, drop_of_length-le text h)
 
--- what the code's answer says of the body
-module _ (text : List ℕ) (at : ℕ) (s : Sizes) (entry exit : List ℕ) where
-  pub body_of : {b : Body} {next last : ℕ} → BodyRead text at s entry exit b → b ≡ End next last → BodyRead text at s entry exit (End next last)
-  body_of {b} r q = rw q at r
-
-  pub bad_body_of : {b : Body} {l : ℕ} → BodyRead text at s entry exit b → b ≡ BadAt l → lines_in (forms s) 2 (drop at text) ≡ wrong l
-  bad_body_of {b} r q = rw q at r
-
-pub table_stored : (s : Sizes) (entry middle exit ws : List ℕ) → middle ≡ sets entry 0 (header s) → exit ≡ sets middle 8 ws → exit ≡ sets entry 0 (header s ++ ws)
+pub table_stored : (s : Counts) (entry middle exit ws : List ℕ) → middle ≡ sets entry 0 (header s) → exit ≡ sets middle 8 ws → exit ≡ sets entry 0 (header s ++ ws)
 table_stored s entry middle exit ws m e = e ∙ rw m (sym (sets_append entry 0 (header s) ws))
 
 -- ---- the reader's answer
@@ -86,29 +54,19 @@ module _ (text : List ℕ) where
   too_long_answer old h = (rw (lt-ltb 262144 (length text) h), rw (lt-ltb 262144 (length text) h))
 
   module _ (short : length text ≤ 262144) where
-    read_is : {g : Given} → table_in (head_in text) ≡ g → read text ≡ g
+    pub read_is : {g : Given} → table_in (head_in text) ≡ g → read text ≡ g
     unfolding read
     read_is h = rw (le-ltb 262144 (length text) short) h
 
-    -- what the first reading says
-    pub bad_judged : (e x : List ℕ) {t : Judged} {l : ℕ} → TableRead (table_in (head_in text)) e x t → t ≡ Bad l → read text ≡ bad_line l
-    bad_judged e x {t} {l} r q = read_is (rw q at r)
-
-    pub words_judged : (e x : List ℕ) {t : Judged} {n : ℕ} → TableRead (table_in (head_in text)) e x t → t ≡ Words n → (n < 65536) × ((ws : List ℕ) × (n ≡ length ws) × (read text ≡ words ws))
-    words_judged e x {t} {n} r q =
-        let h : TableRead (table_in (head_in text)) e x (Words n) = rw q at r in
-        (h.0, (h.1.0, h.1.1, read_is h.1.2))
-
     -- what the second leaves
-    pub words_stored : (entry exit ws : List ℕ) (t : Judged) → TableRead (table_in (head_in text)) entry exit t → read text ≡ words ws → exit ≡ sets entry 0 ws
-    words_stored entry exit ws (Words n) r q =
+    pub words_stored : (entry exit ws : List ℕ) (t : Result ℕ ℕ) → TableRead (table_in (head_in text)) entry exit t → read text ≡ words ws → exit ≡ sets entry 0 ws
+    words_stored entry exit ws (Ok n) r q =
         let e : words r.1.0 ≡ words ws = sym (read_is r.1.2) ∙ q in
         let same : r.1.0 ≡ ws = cc in
         r.1.3 ∙ rw same
-    words_stored entry exit ws (Bad l) r q =
+    words_stored entry exit ws (Err l) r q =
         let e : bad_line l ≡ words ws = sym (read_is r) ∙ q in
-        let z : ◌≡◌ {A = ℕ} 0 1 = cc in
-        absurd (omega (arith, z))
+        cc
 
   pub line_answer : {l : ℕ} → read text ≡ bad_line l → (old : List ℕ) → (refused 16 l ≡ reading text (length old)) × (old ≡ words_after text old)
   unfolding reading words_after

@@ -6,10 +6,9 @@ use Prim.Native.Nat.{ℕ, suc, ◌+◌}
 use native.Mathlib.Omega.{arith}
 use lib.ListN.{length, take, drop, length-append, length-replicate}
 use Rattle.plan.specs.Words.{word}
-use Rattle.text.specs.declared.form.Sizes.{Sizes}
+use Rattle.text.specs.Reading.{Counts, Front, found, bad, head_in, forms, header, Lines, right, wrong, behind, lines_in, bad_line, ended, table_in}
 use Rattle.text.specs.Text.{text_of}
 use Rattle.text.specs.Steps.{lines_text}
-use Rattle.text.specs.Reading.{Front, found, bad, head_in, forms, header, Lines, right, wrong, behind, lines_in, bad_line, ended, table_in}
 use Rattle.text.specs.Lines.{lines, Table, Agrees, FirstBad}
 use Rattle.text.proofs.Laws.Fits.{BodyFits, Limited, sizes_of}
 use Rattle.text.proofs.Laws.Whole.{text_of_lem, limited_sizes, body_fits, table_of}
@@ -20,12 +19,12 @@ use Rattle.text.proofs.Laws.FirstBad.{some_body, forms_able, Fails, fails_at, fa
 -- ---- the text of a table
 
 -- from its sizes and its body
-pub table_text : (s : Sizes) (body : List ℕ) → Limited s → BodyFits (forms s) body → text_of (header s ++ body) ≡ head_text s ++ lines_text (forms s) body
+pub table_text : (s : Counts) (body : List ℕ) → Limited s → BodyFits (forms s) body → text_of (header s ++ body) ≡ head_text s ++ lines_text (forms s) body
 unfolding word
 table_text s body f t = let p = table_of s body f t in text_of_lem (header s ++ body) p.header p.limits
 
 -- its first line, and those behind it
-pub head_lines : (s : Sizes) (rest : List ℕ) → lines (head_text s ++ rest) ≡ head_text s ∷ lines rest
+pub head_lines : (s : Counts) (rest : List ℕ) → lines (head_text s ++ rest) ≡ head_text s ∷ lines rest
 head_lines s rest = fields_lines false [] (s.tables ∷ s.nodes ∷ s.items ∷ []) rest (omega arith)
 
 -- the same of words that are a table
@@ -33,7 +32,7 @@ pub table_lines : (ws : List ℕ) → Table ws → lines (text_of ws) ≡ head_t
 table_lines ws t = ap lines (text_of_lem ws t.header t.limits) ∙ head_lines (sizes_of ws) (lines_text (forms (sizes_of ws)) (drop 8 ws))
 
 -- the first line says T, N and I
-pub head_same : (s r : Sizes) → Limited s → Limited r → head_text s ≡ head_text r → s ≡ r
+pub head_same : (s r : Counts) → Limited s → Limited r → head_text s ≡ head_text r → s ≡ r
 head_same s r f g e =
     let a : head_in (head_text s ++ []) ≡ found s [] = head_read s [] f in
     let b : head_in (head_text r ++ []) ≡ found r [] = head_read r [] g in
@@ -42,7 +41,7 @@ head_same s r f g e =
 
 -- ---- the first line is bad
 
-some_table : (s : Sizes) → Limited s → (ws : List ℕ) × Table ws
+some_table : (s : Counts) → Limited s → (ws : List ℕ) × Table ws
 some_table s f = let b = some_body (forms_able s f) in (header s ++ b.0, table_of s b.0 f b.1)
 
 pub head_fails : (text : List ℕ) → head_in text ≡ bad → FirstBad text 1
@@ -53,7 +52,7 @@ head_fails text q =
   where
     other : Agrees text 1 → ⊥
     other a =
-        let s : Sizes = sizes_of a.table in
+        let s : Counts = sizes_of a.table in
         let rest : List ℕ = lines_text (forms s) (drop 8 a.table) in
         let r = first_line text (head_text s) (lines rest) (rw (table_lines a.table a.passes) at a.same) in
         let e : head_in text ≡ found s r.0 = ap head_in r.1 ∙ head_read s r.0 (limited_sizes a.table a.passes.limits) in
@@ -62,7 +61,7 @@ head_fails text q =
 
 -- ---- a line behind the first is bad, missing or surplus
 
-pub body_fails : (s : Sizes) (text rest : List ℕ) (m : ℕ) → Limited s → text ≡ head_text s ++ rest → Fails (forms s) rest m → FirstBad text (suc (suc m))
+pub body_fails : (s : Counts) (text rest : List ℕ) (m : ℕ) → Limited s → text ≡ head_text s ++ rest → Fails (forms s) rest m → FirstBad text (suc (suc m))
 body_fails s text rest m f e t =
     record {
       before = suc m;
@@ -78,12 +77,12 @@ body_fails s text rest m f e t =
     here : lines text ≡ head_text s ∷ lines rest
     here = ap lines e ∙ head_lines s rest
 
-    behind_head : (r : Sizes) (vs : List ℕ) → s ≡ r → BodyFits (forms r) vs → take (suc m) (lines rest) ≡ take (suc m) (lines (lines_text (forms r) vs)) → ⊥
+    behind_head : (r : Counts) (vs : List ℕ) → s ≡ r → BodyFits (forms r) vs → take (suc m) (lines rest) ≡ take (suc m) (lines (lines_text (forms r) vs)) → ⊥
     behind_head r vs q g h = t.other vs (rw q g) (rw q h)
 
     other : Agrees text (suc (suc m)) → ⊥
     other a =
-        let r : Sizes = sizes_of a.table in
+        let r : Counts = sizes_of a.table in
         let vs : List ℕ = drop 8 a.table in
         let h : head_text s ∷ take (suc m) (lines rest) ≡ head_text r ∷ take (suc m) (lines (lines_text (forms r) vs)) =
         rw (here, table_lines a.table a.passes) at a.same in
@@ -91,14 +90,14 @@ body_fails s text rest m f e t =
 
 -- ---- the line that is named
 
-forms_length : (s : Sizes) → length (forms s) ≡ suc (s.nodes + s.items)
+forms_length : (s : Counts) → length (forms s) ≡ suc (s.nodes + s.items)
 unfolding forms
 forms_length s = simp (length-append, length-replicate)
 
 pub named : (text : List ℕ) (k : ℕ) → table_in (head_in text) ≡ bad_line k → FirstBad text k
 named text k q = go (head_in text) refl q
   where
-    body : (s : Sizes) (rest : List ℕ) → Limited s × (text ≡ head_text s ++ rest) → (r : Lines) → lines_in (forms s) 2 rest ≡ r
+    body : (s : Counts) (rest : List ℕ) → Limited s × (text ≡ head_text s ++ rest) → (r : Lines) → lines_in (forms s) 2 rest ≡ r
         → ended (3 + s.nodes + s.items) (behind (header s) r) ≡ bad_line k → FirstBad text k
     body s rest h (wrong l) e d =
         let f = fails_at (forms_able s h.0) 2 rest l e in
@@ -112,6 +111,6 @@ named text k q = go (head_in text) refl q
         let p : k ≡ suc (suc (length (forms s))) = omega (arith, forms_length s) in
         rw p (body_fails s text rest (length (forms s)) h.0 h.1 f)
 
-    go : (f : Front Sizes) → head_in text ≡ f → table_in f ≡ bad_line k → FirstBad text k
+    go : (f : Front Counts) → head_in text ≡ f → table_in f ≡ bad_line k → FirstBad text k
     go bad e d = let p : 1 ≡ k = cc in subst (FirstBad text) p (head_fails text e)
     go (found s rest) e d = body s rest (head_is text s rest e) (lines_in (forms s) 2 rest) refl d

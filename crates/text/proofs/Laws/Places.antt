@@ -1,5 +1,5 @@
 -- One place of a list: read, stored, and what is behind it.
-use mathlib.Core.Path.{◌≡◌, refl, sym, ap, ◌∙◌}
+use mathlib.Core.Path.{◌≡◌, refl, ap, ◌∙◌}
 use mathlib.Core.Bool.{Bool, true, false}
 use mathlib.Core.List.{List, [], ◌∷◌, ◌++◌}
 use Prim.Native.Nat.{ℕ, suc, ◌+◌, ◌<◌, ◌≤◌}
@@ -8,14 +8,7 @@ use native.Mathlib.Numerals.{add-one}
 use borrow.Author.Tests.{ltb-true, ltb-false}
 use lib.Dec.{ltb}
 use lib.ListN.{length, get_or, set, drop, get_or-eq_default}
-use lib.Seq.{sets, set_out, set_comm, drop-cons}
-
--- past the end nothing is stored and 0 is read
-pub read_past : (l : List ℕ) (i : ℕ) → length l ≤ i → 0 ≡ get_or l i 0
-read_past l i h = sym (get_or-eq_default l 0 h)
-
-pub store_past : (l : List ℕ) (i a : ℕ) → length l ≤ i → l ≡ set l i a
-store_past l i a h = sym (set_out l i a h)
+use lib.Seq.{sets, set_comm, drop-cons}
 
 -- a place that holds something is there
 pub inside : (l : List ℕ) (i b : ℕ) → b ≡ get_or l i 0 → 1 ≤ b → i < length l

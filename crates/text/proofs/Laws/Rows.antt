@@ -11,10 +11,9 @@ use borrow.Author.Tests.{ne_eqb}
 use Rattle.algebra.specs.Lists.{is_empty}
 use Rattle.plan.specs.Items.{between}
 use Rattle.text.specs.declared.form.Form.{Form}
-use Rattle.text.specs.declared.form.Sizes.{Sizes}
+use Rattle.text.specs.Reading.{Counts, Front, found, bad, and_then, constant_next, word_in, field_in, words_in, line_in, head_in, Lines, right, wrong, behind, line_then, lines_in}
 use Rattle.text.specs.Numbers.{decimal}
 use Rattle.text.specs.Steps.{number, fields_text, line_text, lines_text}
-use Rattle.text.specs.Reading.{Front, found, bad, and_then, constant_next, word_in, field_in, words_in, line_in, head_in, Lines, right, wrong, behind, line_then, lines_in}
 use Rattle.text.proofs.Laws.Fits.{WordsFit, none_left, one_more, BodyFits, no_row, one_row, Limited}
 use Rattle.text.proofs.Laws.Fields.{word_read, word_is, field_read, field_is}
 
@@ -164,10 +163,10 @@ body_is (form ∷ fs) l bs ws rest q = go (line_in form bs) refl q (body_is fs (
 -- ---- the first line
 
 -- the first line of a text
-abbrev pub head_text : Sizes → List ℕ
+abbrev pub head_text : Counts → List ℕ
 head_text s = line_text false (s.tables ∷ s.nodes ∷ s.items ∷ [])
 
-pub head_read : (s : Sizes) (rest : List ℕ) → Limited s → head_in (line_text false (s.tables ∷ s.nodes ∷ s.items ∷ []) ++ rest) ≡ found s rest
+pub head_read : (s : Counts) (rest : List ℕ) → Limited s → head_in (line_text false (s.tables ∷ s.nodes ∷ s.items ∷ []) ++ rest) ≡ found s rest
 unfolding head_in fields_text
 head_read s rest f =
     let T : List ℕ = decimal s.tables in
@@ -184,7 +183,7 @@ head_read s rest f =
     )
 
 -- three numbers, one behind the other
-module _ (bs ts ns is : List ℕ) (t n i : ℕ) (s : Sizes) (rest : List ℕ) (q : found (record { tables = t; nodes = n; items = i }) is ≡ found s rest) where
+module _ (bs ts ns is : List ℕ) (t n i : ℕ) (s : Counts) (rest : List ℕ) (q : found (record { tables = t; nodes = n; items = i }) is ≡ found s rest) where
   three_are : (1 ≤ t) × (t ≤ 16) × (bs ≡ decimal t ++ (32 ∷ ts)) → (1 ≤ n) × (n ≤ 256) × (ts ≡ decimal n ++ (32 ∷ ns))
       → (0 ≤ i) × (i ≤ 2000) × (ns ≡ decimal i ++ (10 ∷ is))
       → Limited s × (bs ≡ line_text false (s.tables ∷ s.nodes ∷ s.items ∷ []) ++ rest)
@@ -196,16 +195,16 @@ module _ (bs ts ns is : List ℕ) (t n i : ℕ) (s : Sizes) (rest : List ℕ) (q
         record { tables_some = a.0; tables_few = a.1; nodes_some = b.0; nodes_few = b.1; items_few = c.1 },
         rw (a.2, b.2, c.2) (simp append_assoc),
       ) in
-      subst (λ (x : Sizes). Limited x × (bs ≡ line_text false (x.tables ∷ x.nodes ∷ x.items ∷ []) ++ rest)) e (rw f at r)
+      subst (λ (x : Counts). Limited x × (bs ≡ line_text false (x.tables ∷ x.nodes ∷ x.items ∷ []) ++ rest)) e (rw f at r)
 
 -- what is read behind T, and behind N
-abbrev behind_nodes : ℕ → ℕ → List ℕ → Front Sizes
+abbrev behind_nodes : ℕ → ℕ → List ℕ → Front Counts
 behind_nodes t n ds = and_then (word_in 0 2000 10 ds) (λ i rest. found (record { tables = t; nodes = n; items = i }) rest)
 
-abbrev behind_tables : ℕ → List ℕ → Front Sizes
+abbrev behind_tables : ℕ → List ℕ → Front Counts
 behind_tables t ds = and_then (word_in 1 256 32 ds) (behind_nodes t)
 
-pub head_is : (bs : List ℕ) (s : Sizes) (rest : List ℕ) → head_in bs ≡ found s rest
+pub head_is : (bs : List ℕ) (s : Counts) (rest : List ℕ) → head_in bs ≡ found s rest
     → Limited s × (bs ≡ line_text false (s.tables ∷ s.nodes ∷ s.items ∷ []) ++ rest)
 unfolding head_in
 head_is bs s rest q =

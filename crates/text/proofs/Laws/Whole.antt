@@ -18,10 +18,9 @@ use Rattle.plan.proofs.Laws.Header.{header_says, header_last, between_holds, bet
 use Rattle.plan.proofs.Laws.Numbered.{upto_first, numbered, every_all}
 use Rattle.plan.proofs.Laws.Written.{item_words}
 use Rattle.text.specs.declared.form.Form.{Form}
-use Rattle.text.specs.declared.form.Sizes.{Sizes}
+use Rattle.text.specs.Reading.{Counts, constant_next, widths_form, node_form, item_form, forms, header}
 use Rattle.text.specs.Numbers.{decimal}
 use Rattle.text.specs.Text.{line, item_line, node_line, text_of}
-use Rattle.text.specs.Reading.{constant_next, widths_form, node_form, item_form, forms, header}
 use Rattle.text.specs.Lines.{Table}
 use Rattle.text.specs.Steps.{fields_text, line_text, lines_text}
 use Rattle.text.proofs.Laws.Forms.{total, total_more}
@@ -294,7 +293,7 @@ first_fits {form} {fs} (one_row {xs = xs} {ws = ws} e w b) =
     (ap length p ∙ e, subst (WordsFit form []) (sym p) w, subst (BodyFits fs) (sym (drop_at xs ws form.count e)) b)
 
 -- a header in front of words that fit the lines it says makes a table
-pub table_of : (s : Sizes) (body : List ℕ) → Limited s → BodyFits (forms s) body → Table (header s ++ body)
+pub table_of : (s : Counts) (body : List ℕ) → Limited s → BodyFits (forms s) body → Table (header s ++ body)
 unfolding word forms total
 table_of s body m b = record {
   small = every_append words_small (lines_small forms_small b);

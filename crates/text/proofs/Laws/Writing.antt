@@ -2,13 +2,13 @@
 use mathlib.Core.Path.{◌≡◌, refl, sym, ap, ◌∙◌}
 use mathlib.Core.Bool.{Bool, true, false}
 use mathlib.Core.List.{List, [], ◌∷◌, ◌++◌, append_assoc, append-nil}
-use Prim.Native.Nat.{ℕ, zero, suc, ◌+◌, ◌-◌, ◌/◌, ◌%◌, ◌^◌, ◌<◌, ◌≤◌}
+use Prim.Native.Nat.{ℕ, zero, suc, ◌+◌, ◌-◌, ◌*◌, ◌/◌, ◌%◌, ◌^◌, ◌<◌, ◌≤◌}
 use native.Mathlib.Nat.{pow-suc}
 use native.Mathlib.Omega.{arith}
 use borrow.Author.Tests.{lt-ltb, le-ltb, ltb-true, ltb-false}
 use lib.Dec.{ltb}
 use lib.ListN.{length, get_or, take, drop, set, length-append}
-use lib.Seq.{sets, length-take-le, take_all, drop-length, drop-cons, take-take, take_at, get_or-take, get_or_at}
+use lib.Seq.{sets, length-take-le, drop-cons, take-take, take_at, get_or-take, get_or_at}
 use Rattle.text.specs.Numbers.{decimal, signed}
 use Rattle.text.specs.Steps.{number, WrittenTo}
 use Rattle.text.proofs.Laws.Places.{sets_append, store_in_front}
@@ -16,23 +16,15 @@ use Rattle.text.proofs.Laws.Decimal.{decimal_length, decimal_digit, decimal_step
 
 -- ---- how many digits
 
-one_digit : (n : ℕ) → n < 10 → length (decimal n) ≡ 1
-one_digit n h = ap length (decimal_digit n h)
+pub one_digit : (n : ℕ) → n < 10 → 1 ≡ length (decimal n)
+one_digit n h = sym (ap length (decimal_digit n h))
 
 -- as many as its place among the powers of 10
-pub digits_between : (k n : ℕ) → 10 ^ suc k ≤ n → n < 10 ^ suc (suc k) → suc (suc k) ≡ length (decimal n)
-digits_between zero n g h = omega (arith, decimal_length n (omega arith), one_digit (n / 10) (omega arith))
-digits_between (suc k) n g h =
-    let p = pow-suc 10 (suc k) in
-    let q = pow-suc 10 (suc (suc k)) in
-    omega (arith, decimal_length n (omega arith), digits_between k (n / 10) (omega arith) (omega arith))
-
--- with its bound
-pub counted : (k n : ℕ) → k < 9 → 10 ^ suc k ≤ n → n < 10 ^ suc (suc k) → (suc (suc k) ≡ length (decimal n)) × (suc (suc k) ≤ 10)
-counted k n l g h = (digits_between k n g h, omega arith)
-
-pub counted_one : (n : ℕ) → n < 10 → (1 ≡ length (decimal n)) × (1 ≤ 10)
-counted_one n h = (sym (one_digit n h), omega arith)
+pub digits_counted : (k n : ℕ) → 10 ^ k ≤ n → n < 10 * 10 ^ k → k + 1 ≡ length (decimal n)
+digits_counted zero n g h = one_digit n (omega arith)
+digits_counted (suc k) n g h =
+    let p = pow-suc 10 k in
+    omega (arith, decimal_length n (omega arith), digits_counted k (n / 10) (omega arith) (omega arith))
 
 -- ---- a number, the last digit first
 
@@ -43,7 +35,7 @@ last_digit n k e = go (ltb n 10) refl
     go : (b : Bool) → ltb n 10 ≡ b → (get_or (decimal n) k 0 ≡ 48 + n % 10) × (1 ≤ k → decimal (n / 10) ≡ take k (decimal n))
     go true q =
         let h = ltb-true n 10 q in
-        let one = one_digit n h in
+        let one = sym (one_digit n h) in
         let p : k ≡ 0 = omega arith in
         let m : n % 10 ≡ n = omega arith in
         (rw (p, m, decimal_digit n h), λ l. absurd (omega arith))
@@ -56,13 +48,6 @@ last_digit n k e = go (ltb n 10) refl
 pub record Spelled (n at k rest : ℕ) (entry now : List ℕ) : Type 0 where
   pub stored : now ≡ sets entry (at + k) (drop k (decimal n))
   pub left : 1 ≤ k → decimal rest ≡ take k (decimal n)
-
-pub spelled_none : (n at k : ℕ) (entry : List ℕ) → k ≡ length (decimal n) → Spelled n at k n entry entry
-spelled_none n at k entry e =
-    record {
-      stored = rw (e, drop-length (decimal n));
-      left = λ h. sym (take_all k (decimal n) (omega arith));
-    }
 
 pub spelled_more : (n at k rest b : ℕ) (entry now next : List ℕ) → k ≤ length (decimal n) → 1 ≤ k → Spelled n at k rest entry now
     → next ≡ set now (at + (k - 1)) b → b ≡ 48 + rest % 10 → Spelled n at (k - 1) (rest / 10) entry next
@@ -84,10 +69,6 @@ spelled_more n at (suc k) rest b entry now next l h s e d =
           ∙ ap (λ (m : List ℕ). sets entry (at + k) m) (sym t);
       left = λ j. g.1 j ∙ ap (take k) (s.left h) ∙ take-take k (suc k) D (omega arith);
     })
-
-pub spelled_all : (n at k rest : ℕ) (entry now : List ℕ) → k ≤ 0 → Spelled n at k rest entry now → now ≡ sets entry at (decimal n)
-spelled_all n at zero rest entry now h s = let p : at + 0 ≡ at = omega arith in s.stored ∙ rw p
-spelled_all n at (suc k) rest entry now h s = absurd (omega arith)
 
 -- ---- a word
 

@@ -11,8 +11,7 @@ use lib.ListN.{length, get_or, take, drop, set, length-drop, drop_of_length-le}
 use lib.Seq.{length-take-le, take-suc, drop-cons, get_or-take, drop-drop}
 use Rattle.algebra.specs.Lists.{is_empty}
 use Rattle.text.specs.declared.form.Form.{Form}
-use Rattle.text.specs.declared.form.Sizes.{Sizes}
-use Rattle.text.specs.Reading.{constant_next, node_form, forms}
+use Rattle.text.specs.Reading.{Counts, constant_next, node_form, forms}
 use Rattle.text.specs.Steps.{number, fields_text, line_text, lines_text, WrittenTo}
 use Rattle.text.proofs.Laws.Forms.{total, total_forms, forms_count, form_next, narrow_form, constant_here}
 use Rattle.text.proofs.Laws.Writing.{Part, part_none, part_more, part_all, written_both, written_byte}
@@ -33,9 +32,6 @@ left_behind row j h = go (eqb (j + 1) (length row)) refl
 pub record Before (row : List ℕ) (j last before : ℕ) : Type 0 where
   pub one : 1 ≤ j → last ≡ get_or row (j - 1) 0
   pub two : 2 ≤ j → before ≡ get_or row (j - 2) 0
-
-before_none : (row : List ℕ) → Before row 0 0 0
-before_none row = record { one = λ h. absurd (omega arith); two = λ h. absurd (omega arith) }
 
 before_more : (row : List ℕ) (j last before w : ℕ) → w ≡ get_or row j 0 → Before row j last before → Before row (j + 1) w last
 before_more row j last before w e b =
@@ -69,9 +65,6 @@ pub record Upto (item : Bool) (row entry : List ℕ) (at : ℕ) (now : List ℕ)
   pub part : Part (line_text item row) (fields_text item (take j row) (drop j row)) entry at now next
   pub words : Before row j last before
 
-pub line_none : (item : Bool) (row entry : List ℕ) (at : ℕ) → Upto item row entry at entry 0 at 0 0
-line_none item row entry at = record { part = part_none (line_text item row) entry at; words = before_none row }
-
 pub line_more : (item : Bool) (row entry : List ℕ) (at : ℕ) (now : List ℕ) (j next last before w : ℕ) (constant : Bool) (middle : List ℕ) (n b : ℕ) (exit : List ℕ)
     → j < length row → w ≡ get_or row j 0 → constant ≡ (item && ((eqb j 3 || eqb j 6) && eqb before 2)) → b ≡ cond (eqb (j + 1) (length row)) 10 32
     → Upto item row entry at now j next last before → WrittenTo now next (number constant w) middle n → exit ≡ set middle n b
@@ -96,44 +89,44 @@ line_all item row entry at now j next last before h u = part_all u.part (rw (dro
 -- ---- the lines behind the first
 
 -- lines written up to line k, whose words begin at word from
-pub record Lined (s : Sizes) (ws entry : List ℕ) (at : ℕ) (now : List ℕ) (k next from : ℕ) : Type 0 where
+pub record Lined (s : Counts) (ws entry : List ℕ) (at : ℕ) (now : List ℕ) (k next from : ℕ) : Type 0 where
   pub part : Part (lines_text (forms s) (drop 8 ws)) (lines_text (drop k (forms s)) (drop from ws)) entry at now next
   pub room : from + total (drop k (forms s)) ≤ length ws
 
-pub lines_none : (s : Sizes) (ws entry : List ℕ) (at : ℕ) → 8 + s.tables + 6 * s.nodes + 7 * s.items ≤ length ws → Lined s ws entry at entry 0 at 8
+pub lines_none : (s : Counts) (ws entry : List ℕ) (at : ℕ) → 8 + s.tables + 6 * s.nodes + 7 * s.items ≤ length ws → Lined s ws entry at entry 0 at 8
 lines_none s ws entry at h = record { part = part_none (lines_text (forms s) (drop 8 ws)) entry at; room = omega (arith, total_forms s) }
 
 -- line k: its words are there, they are few, and it is written
-module _ (s : Sizes) (ws entry : List ℕ) (at : ℕ) (now : List ℕ) (k next from : ℕ) (form : Form) (w : ℕ)
-    (h : k < 1 + s.nodes + s.items) (e : form ≡ get_or (forms s) k node_form) (d : w ≡ form.count) (l : Lined s ws entry at now k next from) where
+module _ (s : Counts) (ws entry : List ℕ) (at : ℕ) (now : List ℕ) (k next from : ℕ) (form : Form)
+    (h : k < 1 + s.nodes + s.items) (e : form ≡ get_or (forms s) k node_form) (l : Lined s ws entry at now k next from) where
   -- the forms from line k on
   those : drop k (forms s) ≡ form ∷ drop (k + 1) (forms s)
   those = form_next s k form e h
 
-  pub lines_room : from + w ≤ length ws
+  pub lines_room : from + form.count ≤ length ws
   unfolding total
   lines_room = omega (arith, l.room, ap total those)
 
-  pub lines_narrow : s.tables ≤ 16 → length (take (from + w - from) (drop from ws)) ≤ 16
+  pub lines_narrow : s.tables ≤ 16 → length (take (from + form.count - from) (drop from ws)) ≤ 16
   lines_narrow t =
-      let n : from + w - from ≤ length (drop from ws) = omega (arith, lines_room, length-drop from ws) in
-      omega (arith, length-take-le (from + w - from) (drop from ws) n, narrow_form s t k form e h)
+      let n : from + form.count - from ≤ length (drop from ws) = omega (arith, lines_room, length-drop from ws) in
+      omega (arith, length-take-le (from + form.count - from) (drop from ws) n, narrow_form s t k form e h)
 
-  pub lines_more : (exit : List ℕ) (r : ℕ) → WrittenTo now next (line_text form.item (take (from + w - from) (drop from ws))) exit r → Lined s ws entry at exit (k + 1) r (from + w)
+  pub lines_more : (exit : List ℕ) (r : ℕ) → WrittenTo now next (line_text form.item (take (from + form.count - from) (drop from ws))) exit r → Lined s ws entry at exit (k + 1) r (from + form.count)
   unfolding total lines_text
   lines_more exit r f =
       let fs : List Form = drop (k + 1) (forms s) in
-      let c : from + w - from ≡ form.count = omega arith in
+      let c : from + form.count - from ≡ form.count = omega arith in
       let g : WrittenTo now next (line_text form.item (take form.count (drop from ws))) exit r = rw c at f in
-      let left : lines_text (drop k (forms s)) (drop from ws) ≡ line_text form.item (take form.count (drop from ws)) ++ lines_text fs (drop (from + w) ws) =
+      let left : lines_text (drop k (forms s)) (drop from ws) ≡ line_text form.item (take form.count (drop from ws)) ++ lines_text fs (drop (from + form.count) ws) =
       ap (λ (gs : List Form). lines_text gs (drop from ws)) those
-      ∙ ap (λ (vs : List ℕ). line_text form.item (take form.count (drop from ws)) ++ lines_text fs vs) (drop-drop form.count from ws ∙ ap (λ (i : ℕ). drop (from + i) ws) (sym d)) in
+      ∙ ap (λ (vs : List ℕ). line_text form.item (take form.count (drop from ws)) ++ lines_text fs vs) (drop-drop form.count from ws) in
       record {
-        part = part_more (line_text form.item (take form.count (drop from ws))) (lines_text fs (drop (from + w) ws)) exit r l.part left g;
+        part = part_more (line_text form.item (take form.count (drop from ws))) (lines_text fs (drop (from + form.count) ws)) exit r l.part left g;
         room = omega (arith, l.room, ap total those);
       }
 
-pub lines_all : (s : Sizes) (ws entry : List ℕ) (at : ℕ) (now : List ℕ) (k next from : ℕ) → 1 + s.nodes + s.items ≤ k
+pub lines_all : (s : Counts) (ws entry : List ℕ) (at : ℕ) (now : List ℕ) (k next from : ℕ) → 1 + s.nodes + s.items ≤ k
     → Lined s ws entry at now k next from → WrittenTo entry at (lines_text (forms s) (drop 8 ws)) now next
 unfolding lines_text
 lines_all s ws entry at now k next from h l = part_all l.part (rw (drop_of_length-le (forms s) {i = k} (rw (forms_count s) h)))

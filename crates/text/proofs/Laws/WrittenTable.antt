@@ -2,7 +2,7 @@
 use mathlib.Core.Path.{◌≡◌, sym, ap, ◌∙◌}
 use mathlib.Core.Bool.{true, false}
 use mathlib.Core.List.{List, [], ◌∷◌, ◌++◌}
-use Prim.Native.Nat.{ℕ, suc, ◌+◌, ◌*◌, ◌^◌, ◌<◌, ◌≤◌}
+use Prim.Native.Nat.{ℕ, suc, ◌+◌, ◌^◌, ◌<◌, ◌≤◌}
 use native.Mathlib.Omega.{arith}
 use borrow.Author.Tests.{lt-ltb, le-ltb, le-leb, leb-true, leb-false}
 use lib.Dec.{leb}
@@ -11,7 +11,6 @@ use lib.Seq.{sets-eq}
 use Rattle.algebra.specs.Lists.{Every, done, more}
 use Rattle.plan.specs.Words.{tables, nodes, items}
 use Rattle.plan.specs.Verdict.{header_right, limits_right}
-use Rattle.plan.proofs.Laws.Header.{header_says, limits_say}
 use Rattle.text.specs.Text.{text_of}
 use Rattle.text.specs.Reading.{forms}
 use Rattle.text.specs.Steps.{line_text, lines_text, WrittenTo}
@@ -23,13 +22,6 @@ use Rattle.text.proofs.Laws.Writing.{written_both}
 -- ---- a table
 
 module _ (ws : List ℕ) (h : header_right ws ≡ true) (g : limits_right ws ≡ true) (t n i : ℕ) (et : t ≡ tables ws) (en : n ≡ nodes ws) (ei : i ≡ items ws) where
-  -- its sizes are few, and its words there
-  pub sizes_few : (t ≤ 16) × ((n ≤ 256) × ((i ≤ 2000) × (8 + t + 6 * n + 7 * i ≤ length ws)))
-  sizes_few =
-      let d = header_says ws h in
-      let m = limits_say ws g in
-      (omega arith, (omega arith, (omega arith, omega arith)))
-
   -- the first line and the lines behind it are its text
   pub table_written : (entry middle : List ℕ) (at : ℕ) (exit : List ℕ) (r : ℕ) → WrittenTo entry 0 (line_text false (t ∷ n ∷ i ∷ [])) middle at
       → WrittenTo middle at (lines_text (forms (record { tables = t; nodes = n; items = i })) (drop 8 ws)) exit r → WrittenTo entry 0 (text_of ws) exit r
@@ -48,10 +40,6 @@ small_words (w ∷ ws) f = more (f 0) (small_words ws (λ i. f (suc i)))
 pub room_for_all : (ws : List ℕ) (room : ℕ) → ((i : ℕ) → get_or ws i 0 < 2 ^ 32) → header_right ws ≡ true → limits_right ws ≡ true → 170956 ≤ room → true ≡ leb (length (text_of ws)) room
 room_for_all ws room f h g l =
     sym (le-leb (length (text_of ws)) room (omega (arith, longest ws (record { small = small_words ws f; header = h; limits = g }))))
-
--- the place behind the text is its length
-pub room_told : (ws entry exit : List ℕ) (r room : ℕ) → WrittenTo entry 0 (text_of ws) exit r → leb r room ≡ leb (length (text_of ws)) room
-room_told ws entry exit r room f = ap (λ (n : ℕ). leb n room) (omega (arith, f.1))
 
 -- ---- what is answered, and what stands in the slice then
 

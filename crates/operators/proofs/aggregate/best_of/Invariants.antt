@@ -1,6 +1,6 @@
 use mathlib.Core.Path.{◌≡◌}
-use Prim.Native.Nat.{◌≤◌, ◌<◌}
-use lib.ListN.{take, drop}
+use Prim.Native.Nat.{◌<◌}
+use lib.ListN.{drop}
 use Rattle.algebra.specs.Operators.{best, column_of}
 use Rattle.store.specs.Cells.{value}
 use Rattle.operators.specs.Choice.{chosen, in_order}
@@ -8,8 +8,4 @@ use Rattle.operators.proofs.aggregate.best_of.Given as goal
 
 abbrev pub invariant-loop-i : goal.invariant-loop-i
 invariant-loop-i l =
-    (l.i ≤ l.n) × (l.p < l.width)
-    × (value l.answer ≡ best (in_order l.least) (drop l.i (column_of l.p (chosen l.rows l.width (take l.n l.found)))))
-
-abbrev pub decreases-loop-i : goal.decreases-loop-i
-decreases-loop-i l = l.i
+    (l.p < l.width) × (value l.answer ≡ best (in_order l.order) (drop l.i (column_of l.p (chosen l.rows l.width l.found))))

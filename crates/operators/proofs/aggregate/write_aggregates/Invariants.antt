@@ -1,8 +1,7 @@
 use mathlib.Core.Path.{◌≡◌}
 use mathlib.Core.Bool.{true}
 use mathlib.Core.List.{map}
-use Prim.Native.Nat.{◌-◌, ◌≤◌}
-use lib.ListN.{length, take}
+use lib.ListN.{length}
 use Rattle.algebra.specs.Lists.{all}
 use Rattle.algebra.specs.Operators.{aggregates}
 use Rattle.store.specs.Cells.{cell, in_range, written}
@@ -12,10 +11,7 @@ use Rattle.operators.proofs.aggregate.write_aggregates.Given as goal
 
 abbrev pub invariant-loop-i : goal.invariant-loop-i
 invariant-loop-i l =
-    (l.i ≤ l.count) × (length l.scratch ≡ length l.initial.scratch)
-    × (all in_range (aggregates (aggregates_from l.words l.j l.i) (map (row_of l.cells l.initial.scratch l.b) (take l.n l.found))) ≡ true)
+    (length l.scratch ≡ length l.initial.scratch)
+    × (all in_range (aggregates (aggregates_from l.words l.aggregates.first l.i) (map (row_of l.cells l.initial.scratch l.b) l.found)) ≡ true)
     × (l.scratch ≡ written l.initial.scratch l.to
-    (map cell (aggregates (aggregates_from l.words l.j l.i) (map (row_of l.cells l.initial.scratch l.b) (take l.n l.found)))))
-
-abbrev pub decreases-loop-i : goal.decreases-loop-i
-decreases-loop-i l = l.count - l.i
+    (map cell (aggregates (aggregates_from l.words l.aggregates.first l.i) (map (row_of l.cells l.initial.scratch l.b) l.found))))

@@ -1,6 +1,5 @@
 use mathlib.Core.Path.{◌≡◌}
 use mathlib.Core.List.{map}
-use Prim.Native.Nat.{◌-◌, ◌≤◌}
 use lib.ListN.{length, take}
 use Rattle.plan.specs.Words.{items_from}
 use Rattle.plan.specs.Items.{position_of}
@@ -8,8 +7,5 @@ use Rattle.operators.proofs.columns.read_positions.Given as goal
 
 abbrev pub invariant-loop-i : goal.invariant-loop-i
 invariant-loop-i l =
-    (l.i ≤ l.count) × (length l.positions ≡ length l.initial.positions)
-    × (take l.i l.positions ≡ map position_of (items_from l.words l.j l.i))
-
-abbrev pub decreases-loop-i : goal.decreases-loop-i
-decreases-loop-i l = l.count - l.i
+    (length l.positions ≡ length l.initial.positions)
+    × (take l.i l.positions ≡ map position_of (items_from l.words l.items.first l.i))

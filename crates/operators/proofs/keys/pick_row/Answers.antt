@@ -1,4 +1,3 @@
-use borrow.Author.Rules.{rules}
 use mathlib.Core.Path.{◌≡◌, refl, sym}
 use mathlib.Core.List.{map}
 use native.Mathlib.Omega.{arith}
@@ -13,7 +12,7 @@ use Rattle.operators.proofs.Laws.Columns.{column_more, column_read, columns_size
 use Rattle.operators.proofs.keys.pick_row.Goals as goal
 
 pub loop-k-init : goal.loop-k-init
-loop-k-init c = (search rules, refl, sym (written_nothing _ _))
+loop-k-init c = (refl, sym (written_nothing _ _))
 
 pub loop-k-preserved : goal.loop-k-preserved
 loop-k-preserved c =
@@ -22,11 +21,10 @@ loop-k-preserved c =
     let l = c.loop-k in
     let size : length (map cell (picked (take l.k a.positions.now) (row_of a.cells.now a.scratch.now a.b a.i))) ≡ l.k =
     columns_size a.positions.now (row_of a.cells.now a.scratch.now a.b a.i) l.k (omega arith) in
-    let row = row_kept a.cells.now a.scratch.now a.b a.to p.0.0 _ l.invariant.2 a.i p.1 (omega arith) in (
-      omega arith,
-      simp length-set l.invariant.1,
-      column_more a.scratch.now a.to a.positions.now (row_of a.cells.now a.scratch.now a.b a.i) l.k l.invariant.2
+    let row = row_kept a.cells.now a.scratch.now a.b a.to p.0.0 _ l.invariant.1 a.i p.1 (omega arith) in (
+      simp length-set l.invariant.0,
+      column_more a.scratch.now a.to a.positions.now (row_of a.cells.now a.scratch.now a.b a.i) l.k l.invariant.1
           (to_z-of_z w64 _ (record { sfits = c.cell_at-x.type_inv }))
-          (column_read _ _ _ c.cell_at-x.ensures c.row.ensures row c.wide.ensures) (omega arith)
+          (column_read _ _ _ _ c.cell_at-x.ensures c.row.ensures row) (omega arith)
           (omega arith),
     )

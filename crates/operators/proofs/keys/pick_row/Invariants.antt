@@ -1,6 +1,5 @@
 use mathlib.Core.Path.{◌≡◌}
 use mathlib.Core.List.{map}
-use Prim.Native.Nat.{◌-◌, ◌≤◌}
 use lib.ListN.{length, take}
 use Rattle.algebra.specs.Operators.{picked}
 use Rattle.store.specs.Cells.{cell, written}
@@ -8,8 +7,5 @@ use Rattle.store.specs.Rows.{row_of}
 use Rattle.operators.proofs.keys.pick_row.Given as goal
 
 abbrev pub invariant-loop-k : goal.invariant-loop-k
-invariant-loop-k l = (l.k ≤ l.count) × (length l.scratch ≡ length l.initial.scratch) ×
+invariant-loop-k l = (length l.scratch ≡ length l.initial.scratch) ×
     (l.scratch ≡ written l.initial.scratch l.to (map cell (picked (take l.k l.positions) (row_of l.cells l.initial.scratch l.b l.i))))
-
-abbrev pub decreases-loop-k : goal.decreases-loop-k
-decreases-loop-k l = l.count - l.k

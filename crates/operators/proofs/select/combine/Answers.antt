@@ -1,25 +1,24 @@
-use Rattle.operators.proofs.Laws.Computations.{null_first, null_second, sum_fits, difference_fits, combined_sum, combined_difference}
-use Rattle.store.specs.Cells.{value}
+use Rattle.operators.proofs.Laws.Computations.{combined_null, sum_fits, difference_fits, combined_sum, combined_difference}
 use Rattle.operators.proofs.select.combine.Goals as goal
 
-pub returns-then-a-eq-NULL : goal.returns-then-a-eq-NULL
-returns-then-a-eq-NULL c = null_first c.args.t c.if-t-eq8.false c.args.a (value c.args.b) c.ranges.a c.if-a-eq-NULL.true
-
-pub returns-then-b-eq-NULL : goal.returns-then-b-eq-NULL
-returns-then-b-eq-NULL c = null_second c.args.t c.if-t-eq8.false (value c.args.a) c.args.b c.ranges.b c.if-b-eq-NULL.true
+pub returns-in_default : goal.returns-in_default
+returns-in_default c =
+    combined_null c.args.operation c.in_default.not-Copy c.args.a c.args.b c.ranges.a c.ranges.b c.then-a-eq-NULL.either
 
 pub overflow_add-result : goal.overflow_add-result
-overflow_add-result c = sum_fits c.args.t c.if-t-eq8.false c.args.a c.args.b c.ranges.a c.ranges.b
-    c.if-a-eq-NULL.false c.if-b-eq-NULL.false c.requires.0 c.requires.1
+overflow_add-result c =
+    sum_fits c.args.a c.args.b c.ranges.a c.ranges.b c.if-a-eq-NULL.false c.if-b-eq-NULL.false c.requires.0 c.requires.1
 
-pub returns-then-t-eq9 : goal.returns-then-t-eq9
-returns-then-t-eq9 c = combined_sum c.args.t c.if-t-eq8.false c.args.a c.args.b c.ranges.a c.ranges.b
-    c.if-a-eq-NULL.false c.if-b-eq-NULL.false c.requires.0 c.requires.1 c.if-t-eq9.true
+pub returns-in-Add : goal.returns-in-Add
+returns-in-Add c =
+    rw c.in-Add.is
+    (combined_sum c.args.a c.args.b c.ranges.a c.ranges.b c.if-a-eq-NULL.false c.if-b-eq-NULL.false c.requires.0 c.requires.1)
 
 pub overflow_sub-result : goal.overflow_sub-result
-overflow_sub-result c = difference_fits c.args.t c.if-t-eq8.false c.args.a c.args.b c.ranges.a c.ranges.b
-    c.if-a-eq-NULL.false c.if-b-eq-NULL.false c.requires.0 c.requires.1
+overflow_sub-result c =
+    difference_fits c.args.a c.args.b c.ranges.a c.ranges.b c.if-a-eq-NULL.false c.if-b-eq-NULL.false c.requires.0 c.requires.1
 
-pub returns : goal.returns
-returns c = combined_difference c.args.t c.if-t-eq8.false c.args.a c.args.b c.ranges.a c.ranges.b
-    c.if-a-eq-NULL.false c.if-b-eq-NULL.false c.requires.0 c.requires.1 c.if-t-eq9.false
+pub returns-in-Subtract : goal.returns-in-Subtract
+returns-in-Subtract c =
+    rw c.in-Subtract.is
+    (combined_difference c.args.a c.args.b c.ranges.a c.ranges.b c.if-a-eq-NULL.false c.if-b-eq-NULL.false c.requires.0 c.requires.1)

@@ -1,15 +1,13 @@
-use native.Mathlib.Omega.{arith}
-use Rattle.plan.proofs.Laws.Header.{widths_more, widths_fail, widths_end}
+use Rattle.std.proofs.Common.{rules, tests, arith, ◌∙◌, ℕ, refl}
+use Rattle.std.proofs.lemmas.Iterator.{YieldsList-from_range}
+use Rattle.std.proofs.lemmas.Iterator.Search.{all_from_yields_List}
+use Rattle.plan.specs.Words.{table_width}
+use Rattle.plan.specs.Items.{between}
+use Rattle.plan.proofs.Laws.Ranges.{all_below}
 use Rattle.plan.proofs.header.table_widths_right.Goals as goal
 
-pub returns-then-w-lt1 : goal.returns-then-w-lt1
-returns-then-w-lt1 c = widths_fail _ _ _ _ c.table_width-w.ensures (λ h. omega arith) c.loop-i-test.true
-
-pub returns-then-w-gt-WIDTH : goal.returns-then-w-gt-WIDTH
-returns-then-w-gt-WIDTH c = widths_fail _ _ _ _ c.table_width-w.ensures (λ h. omega arith) c.loop-i-test.true
-
-pub loop-i-preserved : goal.loop-i-preserved
-loop-i-preserved c = (omega arith, widths_more _ _ _ c.loop-i.invariant.1 c.table_width-w.ensures (omega arith) (omega arith))
-
 pub returns : goal.returns
-returns c = widths_end _ _ _ c.loop-i.invariant.1 c.loop-i-test.false c.loop-i.invariant.0
+returns c =
+    let right = λ (i : ℕ). between 1 64 (table_width c.args.words.now i) in
+    all_from_yields_List right _ _ _ c.all.ensures.ran (YieldsList-from_range 0 c.args.t c.args.t refl (omega arith)) (λ x b q k. search (rules, tests))
+    ∙ all_below right c.args.t

@@ -1,8 +1,8 @@
-use Rattle.plan.proofs.Laws.Words.{word_read, word_past}
+use Rattle.std.proofs.Common.{◌∙◌, ap, arith}
+use Rattle.std.specs.Option.{unwrap_or}
+use Rattle.plan.specs.Words.{word}
 use Rattle.plan.proofs.words.word.Goals as goal
 
-pub returns-then-i-words : goal.returns-then-i-words
-returns-then-i-words c = word_read _ _
-
-pub returns-else-i-words : goal.returns-else-i-words
-returns-else-i-words c = word_past _ _ c.if-i-words.false
+pub returns : goal.returns
+unfolding word
+returns c = c.unwrap_or.ensures ∙ ap (λ o. unwrap_or o 0) c.copied.ensures ∙ c.get.ensures.lookup.4 (omega arith) 0

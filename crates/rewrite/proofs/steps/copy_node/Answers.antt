@@ -1,86 +1,70 @@
-use mathlib.Core.Path.{◌≡◌, ap}
+use mathlib.Core.Path.{refl}
 use Prim.Native.Nat.{ℕ, ◌^◌, ◌<◌}
 use native.Mathlib.Omega.{arith}
 use lib.ListN.{get_or}
-use Rattle.pages.specs.declared.page.Head.{Head}
-use Rattle.pages.specs.Pages.{head_of}
+use Rattle.plan.proofs.Laws.Formed.{left_in, right_in, named}
 use Rattle.pages.proofs.Laws.Limits.{items_within}
 use Rattle.pages.proofs.Laws.Pages.{pushed_as}
-use Rattle.rules.proofs.Laws.Copies.{left_few, right_few, no_scan, paired, copied_scan, copied_join, copied_groupjoin, copied_other}
-use borrow.Author.Rules.{rules}
+use Rattle.rules.proofs.Laws.Copies.{copied_missed, copied_scan, copied_join, copied_groupjoin, copied_other}
 use Rattle.rewrite.proofs.steps.copy_node.Goals as goal
 
--- a head by its words
-made : (head : Head) {o l r k : ℕ} → head.operator ≡ o → head.left ≡ l → head.right ≡ r → head.kind ≡ k → head ≡ head_of o l r k
-made head o l r k = λ i. record { operator = o i; left = l i; right = r i; kind = k i }
+pub push_copied-requires : goal.push_copied-requires
+push_copied-requires c = items_within c.requires.0 c.requires.1 c.first_item-from.ensures c.item_count-count.ensures
 
-pub copied-c-requires : goal.copied-c-requires
-copied-c-requires c = items_within c.requires.0 c.requires.1 c.first_item-from.ensures c.item_count-count.ensures
+pub returns-in_err-push_copied : goal.returns-in_err-push_copied
+returns-in_err-push_copied c =
+    let small : (i : ℕ) → get_or c.args.words.now i 0 < 2 ^ 32 = λ i. omega (arith, c.type_inv.words i) in
+    copied_missed c.args.words.now c.requires.0 c.args.n c.requires.1 small (λ i. get_or c.args.images.now i 0) _ _ _ _
+    (named _ c.requires.0.formed c.args.n c.requires.1 c.of-operator.ensures) c.left-input.ensures c.first_item-from.ensures c.item_count-count.ensures
+    c.in_err-push_copied.ensures _ c.from_residual.result c.from_residual.ensures.0
 
-pub image-requires : goal.image-requires
-image-requires c =
-    left_few c.args.words.now c.requires.0 c.args.n c.requires.1 _ _ c.operator-operation.ensures c.left-input.ensures
-    (no_scan _ c.in-5.is)
+pub bounds-images-input : goal.bounds-images-input
+bounds-images-input c = left_in _ c.requires.0.formed c.args.n c.requires.1 c.left-input.ensures
 
-pub image-requires-in-5 : goal.image-requires-in-5
-image-requires-in-5 c =
-    right_few c.args.words.now c.requires.0 c.args.n c.requires.1 _ _ c.operator-operation.ensures c.right.ensures (paired _ c.in-5.is)
+pub bounds-images-input-in-Join : goal.bounds-images-input-in-Join
+bounds-images-input-in-Join c = left_in _ c.requires.0.formed c.args.n c.requires.1 c.left-input.ensures
 
-pub image-requires-in-7 : goal.image-requires-in-7
-image-requires-in-7 c =
-    left_few c.args.words.now c.requires.0 c.args.n c.requires.1 _ _ c.operator-operation.ensures c.left-input.ensures
-    (λ e. omega arith)
+pub bounds-images-other : goal.bounds-images-other
+bounds-images-other c = right_in _ c.requires.0.formed c.args.n c.requires.1 c.right-other.ensures
 
-pub image-requires-in-7-2 : goal.image-requires-in-7-2
-image-requires-in-7-2 c =
-    right_few c.args.words.now c.requires.0 c.args.n c.requires.1 _ _ c.operator-operation.ensures c.right-in-7.ensures (rw c.in-7.is)
+pub bounds-images-input-in-Groupjoin : goal.bounds-images-input-in-Groupjoin
+bounds-images-input-in-Groupjoin c = left_in _ c.requires.0.formed c.args.n c.requires.1 c.left-input.ensures
 
-pub count_tagged-requires : goal.count_tagged-requires
-count_tagged-requires c = items_within c.requires.0 c.requires.1 c.first_item-from.ensures c.item_count-count.ensures
+pub bounds-images-other-in-Groupjoin : goal.bounds-images-other-in-Groupjoin
+bounds-images-other-in-Groupjoin c = right_in _ c.requires.0.formed c.args.n c.requires.1 c.right-other-in-Groupjoin.ensures
 
-pub image-requires-in_default : goal.image-requires-in_default
-image-requires-in_default c =
-    left_few c.args.words.now c.requires.0 c.args.n c.requires.1 _ _ c.operator-operation.ensures c.left-input.ensures
-    (search rules)
+pub count_of_sort-requires : goal.count_of_sort-requires
+count_of_sort-requires c = items_within c.requires.0 c.requires.1 c.first_item-from.ensures c.item_count-count.ensures
 
-pub returns-in-1 : goal.returns-in-1
-returns-in-1 c =
+pub returns-in-Scan : goal.returns-in-Scan
+returns-in-Scan c =
     let small : (i : ℕ) → get_or c.args.words.now i 0 < 2 ^ 32 = λ i. omega (arith, c.type_inv.words i) in
     copied_scan c.args.words.now c.requires.0 c.args.n c.requires.1 small (λ i. get_or c.args.images.now i 0) _ _ _ _
-    c.operator-operation.ensures c.left-input.ensures c.first_item-from.ensures c.item_count-count.ensures
-    c.copied-c.ensures
-    _ c.in-1.is c.table_width.ensures (pushed_as c.scan.ensures c.push_node.ensures)
+    (named _ c.requires.0.formed c.args.n c.requires.1 c.of-operator.ensures) c.left-input.ensures c.first_item-from.ensures c.item_count-count.ensures
+    c.in_ok-push_copied.ensures
+    _ c.in-Scan.is c.table_width.ensures (pushed_as c.scan.ensures c.push_node.ensures)
 
-pub returns-in-5 : goal.returns-in-5
-returns-in-5 c =
-    let small : (i : ℕ) → get_or c.args.words.now i 0 < 2 ^ 32 = λ i. omega (arith, c.type_inv.words i) in
-    let e = c.join-head.ensures in
-    copied_join c.args.words.now c.requires.0 c.args.n c.requires.1 small (λ i. get_or c.args.images.now i 0) _ _ _ _
-    c.operator-operation.ensures c.left-input.ensures c.first_item-from.ensures c.item_count-count.ensures
-    c.copied-c.ensures
-    _ _ _ _ c.in-5.is
-    c.image.ensures c.right.ensures c.image-in-5.ensures
-    c.kind.ensures
-    (pushed_as
-    (made _ (omega (arith, ap (λ (h : Head). h.operator) e)) (ap (λ (h : Head). h.left) e) (ap (λ (h : Head). h.right) e)
-    (ap (λ (h : Head). h.kind) e))
-    c.push_node-in-5.ensures)
-
-pub returns-in-7 : goal.returns-in-7
-returns-in-7 c =
-    let small : (i : ℕ) → get_or c.args.words.now i 0 < 2 ^ 32 = λ i. omega (arith, c.type_inv.words i) in
-    copied_groupjoin c.args.words.now c.requires.0 c.args.n c.requires.1 small (λ i. get_or c.args.images.now i 0) _ _ _ _
-    c.operator-operation.ensures c.left-input.ensures c.first_item-from.ensures c.item_count-count.ensures
-    c.copied-c.ensures
-    _ _ _ _ c.in-7.is
-    c.image-in-7.ensures c.right-in-7.ensures c.image-in-7-2.ensures
-    c.count_tagged.ensures (pushed_as c.groupjoin.ensures c.push_node-in-7.ensures)
-
-pub returns-in_default : goal.returns-in_default
-returns-in_default c =
+pub returns-in-Select : goal.returns-in-Select
+returns-in-Select c =
     let small : (i : ℕ) → get_or c.args.words.now i 0 < 2 ^ 32 = λ i. omega (arith, c.type_inv.words i) in
     copied_other c.args.words.now c.requires.0 c.args.n c.requires.1 small (λ i. get_or c.args.images.now i 0) _ _ _ _
-    c.operator-operation.ensures c.left-input.ensures c.first_item-from.ensures c.item_count-count.ensures
-    c.copied-c.ensures
-    _ (search rules) c.image-in_default.ensures
-    (pushed_as c.over.ensures c.push_node-in_default.ensures)
+    (named _ c.requires.0.formed c.args.n c.requires.1 c.of-operator.ensures) c.left-input.ensures c.first_item-from.ensures c.item_count-count.ensures
+    c.in_ok-push_copied.ensures
+    _ c.in-Select.is refl (pushed_as c.over.ensures c.push_node-in-Select.ensures)
+
+pub returns-in-Join : goal.returns-in-Join
+returns-in-Join c =
+    let small : (i : ℕ) → get_or c.args.words.now i 0 < 2 ^ 32 = λ i. omega (arith, c.type_inv.words i) in
+    copied_join c.args.words.now c.requires.0 c.args.n c.requires.1 small (λ i. get_or c.args.images.now i 0) _ _ _ _
+    (named _ c.requires.0.formed c.args.n c.requires.1 c.of-operator.ensures) c.left-input.ensures c.first_item-from.ensures c.item_count-count.ensures
+    c.in_ok-push_copied.ensures
+    _ _ _ _ c.in-Join.is refl c.right-other.ensures refl c.of-kind.ensures (pushed_as c.join-head.ensures c.push_node-in-Join.ensures)
+
+pub returns-in-Groupjoin : goal.returns-in-Groupjoin
+returns-in-Groupjoin c =
+    let small : (i : ℕ) → get_or c.args.words.now i 0 < 2 ^ 32 = λ i. omega (arith, c.type_inv.words i) in
+    copied_groupjoin c.args.words.now c.requires.0 c.args.n c.requires.1 small (λ i. get_or c.args.images.now i 0) _ _ _ _
+    (named _ c.requires.0.formed c.args.n c.requires.1 c.of-operator.ensures) c.left-input.ensures c.first_item-from.ensures c.item_count-count.ensures
+    c.in_ok-push_copied.ensures
+    _ _ _ _ c.in-Groupjoin.is refl c.right-other-in-Groupjoin.ensures refl
+    c.count_of_sort.ensures (pushed_as c.groupjoin-head.ensures c.push_node-in-Groupjoin.ensures)

@@ -1,51 +1,45 @@
-use mathlib.Core.Path.{refl}
+use mathlib.Core.Path.{refl, sym, ◌∙◌}
 use Prim.Native.Nat.{◌<◌}
 use native.Mathlib.Omega.{arith}
 use Rattle.plan.specs.Words.{nodes}
 use Rattle.pages.proofs.Laws.Limits.{node_index}
-use Rattle.rules.proofs.Laws.UnderDomain.{is_closed, is_open_lem}
-use Rattle.rewrite.proofs.Laws.FirstNodes.{stepped_none, stepped_open, stepped_closed, stepped_all}
+use Rattle.rewrite.proofs.Laws.FirstNodes.{stepped_none, stepped_open, stepped_closed, stepped_over, stepped_all}
 use Rattle.rewrite.proofs.steps.rewrite_nodes.Goals as goal
-use Rattle.rewrite.proofs.steps.rewrite_nodes.Goals.{then-reaches-wide-eq0, else-reaches-wide-eq0}
+use Rattle.rewrite.proofs.steps.rewrite_nodes.Goals.{In-loop-n, then-is_closed+in_ok-images, else-is_closed}
+
+-- the node is one of the plan's
+low : (c : In-loop-n) → c.loop-n.n < nodes c.args.tables.now.words.now
+low c = rw (← c.nodes-n-end.ensures) c.loop-n-test.true
 
 pub loop-n-init : goal.loop-n-init
-loop-n-init c = (omega arith, stepped_none c.args.words.now c.args.nodes.now c.args.items.now)
+loop-n-init c = stepped_none c.args.tables.now.words.now _ c.requires.1
 
-pub bounds-reaches-wide : goal.bounds-reaches-wide
-bounds-reaches-wide c =
-    let low : c.loop-n.n < nodes c.args.words.now = rw (← c.nodes-count.ensures) c.loop-n-test.true in
-    node_index c.requires.0 low c.wide.ensures
+pub is_closed-requires : goal.is_closed-requires
+is_closed-requires c = (c.requires.0, low (goal.at.is_closed-requires c).In-loop-n)
 
-pub closed_node-c-requires : goal.closed_node-c-requires
-closed_node-c-requires c =
-    let low : c.loop-n.n < nodes c.args.words.now = rw (← c.nodes-count.ensures) c.loop-n-test.true in
-    let shut = is_closed c.args.words.now c.args.reaches.now c.requires.1.0 low c.wide.ensures c.if-reaches-wide-eq0.true in
-    ((c.requires.0, low), shut, c.requires.1)
+pub closed_node-requires : goal.closed_node-requires
+closed_node-requires c = ((c.requires.0, low (goal.at.closed_node-requires c).In-loop-n), sym c.is_closed.ensures ∙ c.if-is_closed.true)
 
-pub bounds-images-wide : goal.bounds-images-wide
-bounds-images-wide c =
-    let low : c.loop-n.n < nodes c.args.words.now = rw (← c.nodes-count.ensures) c.loop-n-test.true in
-    node_index c.requires.0 low c.wide-then-reaches-wide-eq0.ensures
+pub returns-in_err-images : goal.returns-in_err-images
+returns-in_err-images c =
+    stepped_over c.requires.0.accepted c.loop-n.n (low (goal.at.returns-in_err-images c).In-loop-n) (sym c.is_closed.ensures ∙ c.if-is_closed.true)
+    c.loop-n.invariant c.in_err-images.ensures _ c.from_residual.result c.from_residual.ensures.0
+
+pub bounds-images-n : goal.bounds-images-n
+bounds-images-n c = node_index c.requires.0.accepted (low (goal.at.bounds-images-n c).In-loop-n) refl
 
 pub loop-n-preserved : goal.loop-n-preserved
 loop-n-preserved c =
-    let words = c.args.words.now in
-    let low : c.loop-n.n < nodes words = rw (← c.nodes-count.ensures) c.loop-n-test.true in
-    let before = c.loop-n.invariant.1 in (
-      omega arith,
-      elim c.if-reaches-wide-eq0.branch [
-        | then-reaches-wide-eq0 w ↦
-            stepped_closed words c.requires.0 _ low
-            (is_closed words c.args.reaches.now c.requires.1.0 low c.wide.ensures w.if-reaches-wide-eq0.true) _ _ before
-            w.closed_node-c.ensures w.last.ensures w.wide-then-reaches-wide-eq0.ensures (node_index c.requires.0 low refl)
-            w.nodes-is w.items-is w.rows-is w.images-is w.c-is
-        | else-reaches-wide-eq0 w ↦
-            stepped_open words c.requires.0 _ low
-            (is_open_lem words c.args.reaches.now c.requires.1.0 low c.wide.ensures w.if-reaches-wide-eq0.false) before
-            w.nodes-is w.items-is w.rows-is w.images-is w.c-is
-      ],
-    )
+    let words = c.args.tables.now.words.now in
+    let here = low (goal.at.loop-n-preserved c).In-loop-n in
+    elim c.if-is_closed.branch [
+      | then-is_closed+in_ok-images w ↦
+          stepped_closed words c.requires.0.accepted c.loop-n.n here (sym c.is_closed.ensures ∙ w.if-is_closed.true) c.loop-n.invariant
+          w.in_ok-images.ensures w.page-is w.images-is (node_index c.requires.0.accepted here refl)
+      | else-is_closed w ↦
+          stepped_open words c.requires.0.accepted c.loop-n.n here (sym c.is_closed.ensures ∙ w.if-is_closed.false) c.loop-n.invariant
+          w.page-is w.images-is
+    ]
 
 pub returns : goal.returns
-returns c = stepped_all c.loop-n.n c.nodes-count.result c.loop-n.invariant.1
-    c.nodes-count.ensures c.loop-n.invariant.0 c.loop-n-test.false
+returns c = stepped_all c.loop-n.n c.nodes-n-end.result c.loop-n.invariant c.nodes-n-end.ensures (omega arith) (omega arith)

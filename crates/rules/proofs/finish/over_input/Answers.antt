@@ -1,79 +1,116 @@
-use mathlib.Core.Path.{◌≡◌, sym, ◌∙◌}
-use Rattle.plan.specs.Words.{operator}
-use Rattle.plan.specs.Plan.{node_at}
-use Rattle.algebra.specs.Plan.{Node}
-use Rattle.algebra.specs.Domains.{Domain}
-use Rattle.rules.specs.Under.{over_input}
-use Rattle.pages.proofs.Laws.Pages.{added_then, pushed_as}
+use mathlib.Core.Path.{sym}
+use Rattle.plan.proofs.Laws.Formed.{named, is_named, not_named}
+use Rattle.plan.specs.declared.operator.Operator.TheVariants.{Project, Group}
+use Rattle.pages.proofs.Laws.Pages.{missed_more, missed_then, pushed_as, wrote_then}
 use Rattle.rules.proofs.Laws.ItemSorts.{read_node, within, outputs_small, group_small, movable, all_conjuncts, one_input}
 use Rattle.rules.proofs.Laws.OneInputNodes.{project_over, group_none, group_some, moved_over}
-use Rattle.rules.proofs.Laws.RulePages.{grows}
-use borrow.Author.Rules.{rules}
+use Rattle.rules.proofs.Laws.RulePages.{grows, grows_missed}
 use Rattle.rules.proofs.finish.over_input.Goals as goal
 
-pub shifted-c-requires : goal.shifted-c-requires
-shifted-c-requires c =
-    let node_read = read_node c.requires.0.0 c.requires.0.1 c.first_item-from.ensures c.item_count-count.ensures in
-    let project : operator c.args.words.now c.args.n ≡ 4 = sym c.operator-operation.ensures ∙ c.if-operation-eq4.true in
-    (within node_read, c.requires.0.2, outputs_small node_read project)
+-- ---- project
 
-pub returns-then-operation-eq4 : goal.returns-then-operation-eq4
-returns-then-operation-eq4 c D m =
+pub domain_first-requires : goal.domain_first-requires
+domain_first-requires c =
     let node_read = read_node c.requires.0.0 c.requires.0.1 c.first_item-from.ensures c.item_count-count.ensures in
-    let emitted : Domain → Node = λ D. over_input D c.args.input (node_at c.args.words.now c.args.n) in
-    let project : operator c.args.words.now c.args.n ≡ 4 = sym c.operator-operation.ensures ∙ c.if-operation-eq4.true in
-    grows _ (emitted D) (added_then _ _ c.columns-c.ensures c.shifted-c.ensures)
-    (pushed_as c.over.ensures c.push_node.ensures)
-    (project_over node_read D c.args.input m.width project)
+    let project = is_named _ c.requires.0.0.formed _ c.requires.0.1 c.of-operator.ensures c.in-Project.is in
+    (within node_read, c.args.d.now.narrow, outputs_small node_read project)
 
-pub count_tagged-keys-requires : goal.count_tagged-keys-requires
-count_tagged-keys-requires c =
+pub returns-in_err-domain_first-in-Project : goal.returns-in_err-domain_first-in-Project
+returns-in_err-domain_first-in-Project c D m =
+    let node_read = read_node c.requires.0.0 c.requires.0.1 c.first_item-from.ensures c.item_count-count.ensures in
+    let project = is_named _ c.requires.0.0.formed _ c.requires.0.1 c.of-operator.ensures c.in-Project.is in
+    grows_missed _ _ (project_over node_read D c.args.input m.width project) c.in_err-domain_first-in-Project.ensures
+    _ c.from_residual.result c.from_residual.ensures.0
+
+pub returns-in_ok-domain_first-in-Project : goal.returns-in_ok-domain_first-in-Project
+returns-in_ok-domain_first-in-Project c D m =
+    let node_read = read_node c.requires.0.0 c.requires.0.1 c.first_item-from.ensures c.item_count-count.ensures in
+    let project = is_named _ c.requires.0.0.formed _ c.requires.0.1 c.of-operator.ensures c.in-Project.is in
+    grows _ _ (project_over node_read D c.args.input m.width project) c.in_ok-domain_first-in-Project.ensures
+    _ c.push_node.result (pushed_as c.over.ensures c.push_node.ensures)
+
+-- ---- group
+
+pub count_of_sort-requires : goal.count_of_sort-requires
+count_of_sort-requires c =
     let node_read = read_node c.requires.0.0 c.requires.0.1 c.first_item-from.ensures c.item_count-count.ensures in
     within node_read
 
-pub shifted-c-requires-then-keys-eq0 : goal.shifted-c-requires-then-keys-eq0
-shifted-c-requires-then-keys-eq0 c =
+pub returns-in_err-push_matches-in-Group : goal.returns-in_err-push_matches-in-Group
+returns-in_err-push_matches-in-Group c D m =
     let node_read = read_node c.requires.0.0 c.requires.0.1 c.first_item-from.ensures c.item_count-count.ensures in
-    let group : operator c.args.words.now c.args.n ≡ 6 = sym c.operator-operation.ensures ∙ c.if-operation-eq6.true in
-    (within node_read, c.requires.0.2, group_small node_read group)
+    let group = is_named _ c.requires.0.0.formed _ c.requires.0.1 c.of-operator.ensures c.in-Group.is in
+    grows_missed _ _
+    (group_none node_read D c.args.input m.width group c.count_of_sort.ensures c.if-count_of_sort-eq0.true c.args.d.now.node m.node)
+    (missed_more _ _ c.in_err-push_matches-in-Group.ensures) _ c.from_residual-in_err-push_matches-in-Group.result c.from_residual-in_err-push_matches-in-Group.ensures.0
 
-pub returns-then-keys-eq0 : goal.returns-then-keys-eq0
-returns-then-keys-eq0 c D m =
+pub push_shifted-requires : goal.push_shifted-requires
+push_shifted-requires c =
     let node_read = read_node c.requires.0.0 c.requires.0.1 c.first_item-from.ensures c.item_count-count.ensures in
-    let emitted : Domain → Node = λ D. over_input D c.args.input (node_at c.args.words.now c.args.n) in
-    let group : operator c.args.words.now c.args.n ≡ 6 = sym c.operator-operation.ensures ∙ c.if-operation-eq6.true in
-    grows _ (emitted D) (added_then _ _ c.matches-c.ensures c.shifted-c-then-keys-eq0.ensures)
-    (pushed_as c.groupjoin.ensures c.push_node-then-keys-eq0.ensures)
-    (group_none node_read D c.args.input m.width group c.count_tagged-keys.ensures c.if-keys-eq0.true c.args.d.node m.node)
+    let group = is_named _ c.requires.0.0.formed _ c.requires.0.1 c.of-operator.ensures c.in-Group.is in
+    (within node_read, c.args.d.now.narrow, group_small node_read group)
 
-pub shifted-c-requires-then-operation-eq6 : goal.shifted-c-requires-then-operation-eq6
-shifted-c-requires-then-operation-eq6 c =
+pub returns-in_err-push_shifted-in-Group : goal.returns-in_err-push_shifted-in-Group
+returns-in_err-push_shifted-in-Group c D m =
     let node_read = read_node c.requires.0.0 c.requires.0.1 c.first_item-from.ensures c.item_count-count.ensures in
-    let group : operator c.args.words.now c.args.n ≡ 6 = sym c.operator-operation.ensures ∙ c.if-operation-eq6.true in
-    (within node_read, c.requires.0.2, group_small node_read group)
+    let group = is_named _ c.requires.0.0.formed _ c.requires.0.1 c.of-operator.ensures c.in-Group.is in
+    grows_missed _ _
+    (group_none node_read D c.args.input m.width group c.count_of_sort.ensures c.if-count_of_sort-eq0.true c.args.d.now.node m.node)
+    (missed_then _ _ c.in_ok-push_matches-in-Group.ensures c.in_err-push_shifted-in-Group.ensures)
+    _ c.from_residual-in_err-push_shifted-in-Group.result c.from_residual-in_err-push_shifted-in-Group.ensures.0
 
-pub returns-then-operation-eq6 : goal.returns-then-operation-eq6
-returns-then-operation-eq6 c D m =
+pub returns-in_ok-push_shifted-in-Group : goal.returns-in_ok-push_shifted-in-Group
+returns-in_ok-push_shifted-in-Group c D m =
     let node_read = read_node c.requires.0.0 c.requires.0.1 c.first_item-from.ensures c.item_count-count.ensures in
-    let emitted : Domain → Node = λ D. over_input D c.args.input (node_at c.args.words.now c.args.n) in
-    let group : operator c.args.words.now c.args.n ≡ 6 = sym c.operator-operation.ensures ∙ c.if-operation-eq6.true in
-    grows _ (emitted D) (added_then _ _ c.columns-c-then-operation-eq6.ensures c.shifted-c-then-operation-eq6.ensures)
-    (pushed_as c.over-then-operation-eq6.ensures c.push_node-then-operation-eq6.ensures)
-    (group_some node_read D c.args.input m.width group c.count_tagged-keys.ensures c.if-keys-eq0.false)
+    let group = is_named _ c.requires.0.0.formed _ c.requires.0.1 c.of-operator.ensures c.in-Group.is in
+    grows _ _
+    (group_none node_read D c.args.input m.width group c.count_of_sort.ensures c.if-count_of_sort-eq0.true c.args.d.now.node m.node)
+    (wrote_then _ _ c.in_ok-push_matches-in-Group.ensures c.in_ok-push_shifted-in-Group.ensures)
+    _ c.push_node-in-Group.result (pushed_as c.groupjoin.ensures c.push_node-in-Group.ensures)
 
-pub moved-c-requires : goal.moved-c-requires
-moved-c-requires c =
+pub domain_first-requires-in-Group-2 : goal.domain_first-requires-in-Group-2
+domain_first-requires-in-Group-2 c =
     let node_read = read_node c.requires.0.0 c.requires.0.1 c.first_item-from.ensures c.item_count-count.ensures in
-    let o = c.operator-operation.ensures in (
+    let group = is_named _ c.requires.0.0.formed _ c.requires.0.1 c.of-operator.ensures c.in-Group-2.is in
+    (within node_read, c.args.d.now.narrow, group_small node_read group)
+
+pub returns-in_err-domain_first-in-Group-2 : goal.returns-in_err-domain_first-in-Group-2
+returns-in_err-domain_first-in-Group-2 c D m =
+    let node_read = read_node c.requires.0.0 c.requires.0.1 c.first_item-from.ensures c.item_count-count.ensures in
+    let group = is_named _ c.requires.0.0.formed _ c.requires.0.1 c.of-operator.ensures c.in-Group-2.is in
+    grows_missed _ _ (group_some node_read D c.args.input m.width group c.count_of_sort.ensures c.if-count_of_sort-eq0.false)
+    c.in_err-domain_first-in-Group-2.ensures _ c.from_residual-in_err-domain_first-in-Group-2.result c.from_residual-in_err-domain_first-in-Group-2.ensures.0
+
+pub returns-in_ok-domain_first-in-Group-2 : goal.returns-in_ok-domain_first-in-Group-2
+returns-in_ok-domain_first-in-Group-2 c D m =
+    let node_read = read_node c.requires.0.0 c.requires.0.1 c.first_item-from.ensures c.item_count-count.ensures in
+    let group = is_named _ c.requires.0.0.formed _ c.requires.0.1 c.of-operator.ensures c.in-Group-2.is in
+    grows _ _ (group_some node_read D c.args.input m.width group c.count_of_sort.ensures c.if-count_of_sort-eq0.false)
+    c.in_ok-domain_first-in-Group-2.ensures
+    _ c.push_node-in-Group-2.result (pushed_as c.over-in-Group-2.ensures c.push_node-in-Group-2.ensures)
+
+-- ---- select and map
+
+pub push_moved-requires : goal.push_moved-requires
+push_moved-requires c =
+    let node_read = read_node c.requires.0.0 c.requires.0.1 c.first_item-from.ensures c.item_count-count.ensures in
+    let neither = not_named _ c.requires.0.0.formed _ c.requires.0.1 c.of-operator.ensures in (
       within node_read,
-      search rules,
-      search rules,
-      movable node_read (λ q. c.if-operation-eq4.false (o ∙ q)) (λ q. c.if-operation-eq6.false (o ∙ q)) (all_conjuncts node_read (one_input c.requires.1.1)),
+      movable node_read (neither Project c.in_default.not-Project) (neither Group c.in_default.not-Group) (all_conjuncts node_read (one_input c.requires.1.1)),
     )
 
-pub returns : goal.returns
-returns c D m =
+pub returns-in_err-push_moved-in_default : goal.returns-in_err-push_moved-in_default
+returns-in_err-push_moved-in_default c D m =
     let node_read = read_node c.requires.0.0 c.requires.0.1 c.first_item-from.ensures c.item_count-count.ensures in
-    let emitted : Domain → Node = λ D. over_input D c.args.input (node_at c.args.words.now c.args.n) in
-    grows _ (emitted D) (c.moved-c.ensures D m) (pushed_as c.over-2.ensures c.push_node-2.ensures)
-    (moved_over node_read D c.args.input m.width c.requires.1.0 c.requires.1.1 c.operator-operation.ensures c.if-operation-eq4.false c.if-operation-eq6.false)
+    grows_missed _ _
+    (moved_over node_read D c.args.input m.width c.requires.1.0 c.requires.1.1 _ (sym (named _ c.requires.0.0.formed _ c.requires.0.1 c.of-operator.ensures))
+    c.in_default.not-Project c.in_default.not-Group)
+    (c.in_err-push_moved-in_default.ensures D m) _ c.from_residual-in_err-push_moved-in_default.result c.from_residual-in_err-push_moved-in_default.ensures.0
+
+pub returns-in_ok-push_moved-in_default : goal.returns-in_ok-push_moved-in_default
+returns-in_ok-push_moved-in_default c D m =
+    let node_read = read_node c.requires.0.0 c.requires.0.1 c.first_item-from.ensures c.item_count-count.ensures in
+    grows _ _
+    (moved_over node_read D c.args.input m.width c.requires.1.0 c.requires.1.1 _ (sym (named _ c.requires.0.0.formed _ c.requires.0.1 c.of-operator.ensures))
+    c.in_default.not-Project c.in_default.not-Group)
+    (c.in_ok-push_moved-in_default.ensures D m) _ c.push_node-in_default.result (pushed_as c.over-in_default.ensures c.push_node-in_default.ensures)

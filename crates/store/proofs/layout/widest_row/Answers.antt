@@ -1,23 +1,17 @@
+use mathlib.Core.Path.{sym, ap, ◌∙◌}
 use native.Mathlib.Omega.{arith}
-use Rattle.store.proofs.Laws.Layouts.{widest_none, widest_wider, widest_same, widest_whole}
+use Prim.Native.Nat.{ℕ}
+use lib.ListN.{take}
+use Rattle.std.specs.Prelude.{Option, unwrap_or}
+use Rattle.std.proofs.lemmas.Iterator.{YieldsList-from_slice}
+use Rattle.std.proofs.lemmas.Iterator.Adapters.{option_map_id}
+use Rattle.std.proofs.lemmas.Iterator.Consumers.{YieldsList-from_copied, max_from_yields_List}
+use Rattle.store.proofs.Laws.Layouts.{widest_is}
 use Rattle.store.proofs.layout.widest_row.Goals as goal
 
-pub loop-n-init : goal.loop-n-init
-loop-n-init c = (omega arith, widest_none _ c.nodes-count.ensures)
-
-pub loop-n-preserved-then-most-w : goal.loop-n-preserved-then-most-w
-loop-n-preserved-then-most-w c = (
-  omega arith,
-  widest_wider _ c.args.widths.now c.requires.0 c.loop-n.n c.loop-n.invariant.1 (omega arith) (omega arith)
-      c.wide.ensures c.if-most-w.true,
-)
-
-pub loop-n-preserved : goal.loop-n-preserved
-loop-n-preserved c = (
-  omega arith,
-  widest_same _ c.args.widths.now c.requires.0 c.loop-n.n c.loop-n.invariant.1 (omega arith) (omega arith)
-      c.wide.ensures c.if-most-w.false,
-)
-
 pub returns : goal.returns
-returns c = widest_whole _ c.loop-n.invariant.1 c.loop-n-test.false
+returns c =
+    let rows = c.args.widths.now in
+    let most =
+    sym (option_map_id _) ∙ max_from_yields_List _ _ c.max.ensures.ran (YieldsList-from_copied (YieldsList-from_slice (take c.nodes.result rows) cc)) in
+    c.unwrap_or.ensures ∙ ap (λ (o : Option ℕ). unwrap_or o 0) most ∙ widest_is c.args.words.now rows c.requires.0 c.nodes.ensures (omega (arith, c.nodes.ensures, c.requires.1))

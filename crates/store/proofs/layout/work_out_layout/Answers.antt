@@ -1,60 +1,57 @@
-use mathlib.Core.Path.{◌∙◌}
+use mathlib.Core.Path.{refl, ◌∙◌}
 use native.Mathlib.Omega.{arith}
-use lib.ListN.{length-set}
+use Prim.Native.Nat.{◌≤◌}
+use lib.ListN.{length, length-set}
+use Rattle.plan.specs.Words.{nodes}
 use Rattle.plan.proofs.Laws.Formed.{limited}
-use Rattle.store.proofs.Laws.Layouts.{counts_laid, filled_none, filled_more, area_small, read_at}
+use Rattle.store.proofs.Laws.Layouts.{counts_laid, part_read, part_long, filled_none, filled_more, filled_laid, area_small}
+use Rattle.store.proofs.layout.work_out_layout.Goals.{Start}
 use Rattle.store.proofs.layout.work_out_layout.Goals as goal
 
-pub write_counts-requires : goal.write_counts-requires
-write_counts-requires c =
-    let p = c.requires in
-    (omega (arith, p.1, (limited _ p.0.formed.sized).tables_few), p.6)
+few : (c : Start) → nodes c.args.words.now ≤ 256
+few c = omega (arith, (limited _ c.requires.0.formed.sized).nodes_few)
+
+tables : (c : Start) → length c.args.counts.now ≤ 16
+tables c = omega (arith, c.requires.1, (limited _ c.requires.0.formed.sized).tables_few)
+
+pub slice_bounds-copy_from_slice-end : goal.slice_bounds-copy_from_slice-end
+slice_bounds-copy_from_slice-end c = omega (arith, tables (goal.at.slice_bounds-copy_from_slice-end c).Start)
 
 pub widest_row-requires : goal.widest_row-requires
-widest_row-requires c =
-    let p = c.requires in
-    (p.4, omega (arith, (limited _ p.0.formed.sized).nodes_few))
+widest_row-requires c = (c.requires.4, few (goal.at.widest_row-requires c).Start)
 
 pub overflow_mul-area : goal.overflow_mul-area
-overflow_mul-area c =
-    let p = c.requires in
-    omega (arith, area_small _ p.0 p.3 c.widest_row.ensures)
+overflow_mul-area c = omega (arith, area_small _ c.requires.0 c.requires.3 c.widest_row.ensures)
 
 pub loop-n-init : goal.loop-n-init
-loop-n-init c = let p = c.requires in (
-  omega arith,
-  filled_none _ _ _ (c.write_counts.auto.layout ∙ p.6) (counts_laid _ _ c.write_counts.ensures p.1),
-)
-
-pub bounds-widths-wide : goal.bounds-widths-wide
-bounds-widths-wide c =
+loop-n-init c =
     let p = c.requires in
-    omega (arith, (limited _ p.0.formed.sized).nodes_few)
+    filled_none _ _ _ (part_long c.args.layout.now 768 _ _ c.copy_from_slice.ensures.len (omega (arith, tables (goal.at.loop-n-init c).Start)) ∙ p.6)
+    (counts_laid _ _ (part_read c.args.layout.now 768 _ c.copy_from_slice.ensures.after refl (omega arith)) p.1)
 
-pub bounds-layout-at : goal.bounds-layout-at
-bounds-layout-at c =
-    let p = c.requires in
-    omega (arith, (limited _ p.0.formed.sized).nodes_few)
+pub bounds-widths-i : goal.bounds-widths-i
+bounds-widths-i c = omega (arith, few (goal.at.bounds-widths-i c).Start)
 
-pub bounds-reaches-wide : goal.bounds-reaches-wide
-bounds-reaches-wide c = omega (arith, (limited _ c.requires.0.formed.sized).nodes_few)
+pub bounds-layout-i : goal.bounds-layout-i
+bounds-layout-i c = omega (arith, few (goal.at.bounds-layout-i c).Start, c.loop-n.invariant.long)
 
-pub bounds-layout-at-in-loop-n : goal.bounds-layout-at-in-loop-n
-bounds-layout-at-in-loop-n c = simp length-set (omega (arith, (limited _ c.requires.0.formed.sized).nodes_few))
+pub bounds-reaches-i : goal.bounds-reaches-i
+bounds-reaches-i c = omega (arith, few (goal.at.bounds-reaches-i c).Start)
+
+pub bounds-layout-i-in-loop-n : goal.bounds-layout-i-in-loop-n
+bounds-layout-i-in-loop-n c = simp length-set (omega (arith, few (goal.at.bounds-layout-i-in-loop-n c).Start, c.loop-n.invariant.long))
 
 pub start-requires : goal.start-requires
 start-requires c = (c.requires.0, omega arith, c.requires.1, c.requires.2, area_small _ c.requires.0 c.requires.3 c.widest_row.ensures)
 
-pub bounds-layout-at-in-loop-n-2 : goal.bounds-layout-at-in-loop-n-2
-bounds-layout-at-in-loop-n-2 c = simp length-set (omega (arith, (limited _ c.requires.0.formed.sized).nodes_few))
+pub bounds-layout-i-in-loop-n-2 : goal.bounds-layout-i-in-loop-n-2
+bounds-layout-i-in-loop-n-2 c = simp length-set (omega (arith, few (goal.at.bounds-layout-i-in-loop-n-2 c).Start, c.loop-n.invariant.long))
 
 pub loop-n-preserved : goal.loop-n-preserved
-loop-n-preserved c = (
-  omega arith,
-  filled_more _ _ c.loop-n.invariant.1 (omega (arith, (limited _ c.requires.0.formed.sized).nodes_few))
-      c.wide-at.ensures
-      (read_at c.args.widths.now c.wide.ensures (c.requires.4 c.loop-n.n (omega arith)))
-      (read_at c.args.reaches.now c.wide-in-loop-n.ensures (c.requires.5 c.loop-n.n (omega arith)))
-      c.start.ensures.0
-      c.start.ensures.1,
-)
+loop-n-preserved c =
+    let p = c.requires in
+    filled_more _ _ c.loop-n.invariant (omega (arith, few (goal.at.loop-n-preserved c).Start)) (p.4 c.loop-n.n (omega arith))
+    (p.5 c.loop-n.n (omega arith)) c.start.ensures.0 c.start.ensures.1
+
+pub returns : goal.returns
+returns c = filled_laid _ _ c.loop-n.invariant (omega arith) c.widest_row.ensures refl

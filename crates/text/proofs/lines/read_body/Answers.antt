@@ -1,56 +1,33 @@
 use native.Mathlib.Omega.{arith}
-use mathlib.Core.Path.{refl, ◌∙◌}
+use mathlib.Core.Path.{◌≡◌, ◌∙◌}
+use Prim.Native.Nat.{◌+◌}
+use Rattle.std.proofs.lemmas.Result.{err_from_is_err_and}
+use Rattle.text.specs.Steps.{counts}
 use Rattle.text.proofs.Laws.Forms.{narrow_form}
-use Rattle.text.proofs.Laws.Stepped.{line_of, no_line_of, body_start, body_bad, body_more, body_end}
+use Rattle.text.proofs.Laws.Stepped.{body_bad, body_more, body_end}
 use Rattle.text.proofs.lines.read_body.Goals as goal
 
-pub loop-k-init : goal.loop-k-init
-loop-k-init c = let a = c.args in
-    (omega arith, refl, c.requires.at_in_bounds, omega arith, body_start a.text.now a.at a.s a.words.now)
+pub read_line-requires-clause-count_bound : goal.read_line-requires-clause-count_bound
+read_line-requires-clause-count_bound c = narrow_form (counts c.args.s) c.args.s.few_tables c.loop-k.k _ c.form_at-form.ensures (omega arith)
 
-pub read_line-l-requires : goal.read_line-l-requires
-read_line-l-requires c = let a = c.args in
-    let l = c.loop-k in
-    record {
-      at_in_bounds = l.invariant.2;
-      to_bound = omega arith;
-      count_bound = narrow_form a.s c.requires.tables_bound l.k _ c.form_at-form.ensures (omega arith);
-    }
-
-pub shape_of-words-in_default : goal.shape_of-words-in_default
-shape_of-words-in_default c = c.read_line-l.auto.words ∙ c.loop-k.invariant.1
-
-pub returns-in_default : goal.returns-in_default
-returns-in_default c = let a = c.args in
+pub returns-in_err-next : goal.returns-in_err-next
+returns-in_err-next c = let a = c.args in
     let l = c.loop-k in
     let f = c.form_at-form in
-    let r = c.read_line-l in
-    body_bad a.text.now a.at a.s a.words.now l.words l.k l.next l.to l.invariant.4 (omega arith) f.result f.ensures
-    (no_line_of a.text.now l.next f.result l.words l.to r.new.words r.ensures c.in_default.is)
-
-pub overflow_add-to : goal.overflow_add-to
-overflow_add-to c = let a = c.args in
-    let l = c.loop-k in
-    let n = narrow_form a.s c.requires.tables_bound l.k _ c.form_at-form.ensures (omega arith) in
-    omega (arith, n)
+    let p = err_from_is_err_and c.from_residual.result c.from_residual.ensures.1 in
+    let e = c.in_err-next.ensures in
+    let n : p.0 ≡ 2 + l.k = p.2 ∙ cc (rw e.ok_part at e.value) in
+    rw (p.1, n) (body_bad a.text.now a.at (counts a.s) a.words.now l.words l.k l.next l.to l.invariant.2 (omega arith) f.result f.ensures (rw e.ok_part at c.read_line.ensures))
 
 pub loop-k-preserved : goal.loop-k-preserved
 loop-k-preserved c = let a = c.args in
     let l = c.loop-k in
     let f = c.form_at-form in
-    let n = narrow_form a.s c.requires.tables_bound l.k _ f.ensures (omega arith) in
-    let r = line_of a.text.now l.next c.form_at-form.result l.words l.to c.read_line-l.new.words c.read_line-l.ensures c.in-Next.is in (
-      omega arith,
-      c.read_line-l.auto.words ∙ l.invariant.1,
-      r.0,
-      omega (arith, n, c.wide-to.ensures),
-      rw c.wide-to.ensures (body_more a.text.now a.at a.s a.words.now l.words l.k l.next l.to l.invariant.4 (omega arith) f.result f.ensures r),
-    )
-
-pub shape_of-words : goal.shape_of-words
-shape_of-words c = c.loop-k.invariant.1
+    let r = rw c.in_ok-next.ensures.ok_part at c.read_line.ensures in
+    let n = narrow_form (counts a.s) a.s.few_tables l.k _ f.ensures (omega arith) in
+    (r.0, omega (arith, n), body_more a.text.now a.at (counts a.s) a.words.now l.words l.k l.next l.to l.invariant.2 (omega arith) f.result f.ensures r)
 
 pub returns : goal.returns
 returns c = let a = c.args in
     let l = c.loop-k in
-    body_end a.text.now a.at a.s a.words.now l.words l.k l.next l.to l.invariant.4 (omega arith) l.invariant.2 (omega arith)
+    body_end a.text.now a.at (counts a.s) a.words.now l.words l.k l.next l.to l.invariant.2 (omega arith) l.invariant.0 (omega arith)

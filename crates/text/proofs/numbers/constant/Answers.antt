@@ -1,45 +1,17 @@
-use native.Mathlib.Omega.{arith}
-use mathlib.Core.Path.{◌∙◌}
-use Prim.Native.Nat.{zero-le}
-use Rattle.text.proofs.Laws.Places.{inside}
+use mathlib.Core.Path.{sym}
 use Rattle.text.proofs.Laws.Digits.{plain_constant}
-use Rattle.text.proofs.Laws.Stepped.{minus_found, minus_bad, minus_some, place_of_lem}
+use Rattle.text.proofs.Laws.Stepped.{minus_found, minus_bad}
 use Rattle.text.proofs.numbers.constant.Goals as goal
 
 pub returns-then-byte-ne45 : goal.returns-then-byte-ne45
 returns-then-byte-ne45 c = let a = c.args in
-    let y = c.byte in
-    record {
-      result_value = c.word.ensures.result_value ∙ plain_constant a.text.now a.at y.result y.ensures a.end c.if-byte-ne45.true;
-      result_in_bounds = c.word.ensures.result_in_bounds;
-    }
+    rw (sym (plain_constant a.text.now a.at c.byte.result c.byte.ensures a.end c.if-byte-ne45.true)) c.word.ensures
 
-pub overflow_add-at : goal.overflow_add-at
-overflow_add-at c = let a = c.args in
-    let y = c.byte in
-    let i = inside a.text.now a.at y.result y.ensures (omega arith) in
-    omega (arith, i)
+pub returns-in_err-f : goal.returns-in_err-f
+returns-in_err-f c = let a = c.args in
+    rw c.from_residual.ensures (minus_bad a.text.now a.at c.byte.result c.byte.ensures c.if-byte-ne45.false a.end c.in_err-f.ensures)
 
-pub overflow_cast-w : goal.overflow_cast-w
-overflow_cast-w c = let a = c.args in
-    let y = c.byte in
-    let v = minus_some a.text.now a.at y.result y.ensures c.if-byte-ne45.false a.end c.word-f.ensures.result_value c.in-Word.is in
-    omega (arith, v, c.word_wide.ensures)
-
-pub returns-in-NoWord : goal.returns-in-NoWord
-returns-in-NoWord c = let a = c.args in
-    let y = c.byte in
-    record {
-      result_value = minus_bad a.text.now a.at y.result y.ensures c.if-byte-ne45.false a.end c.word-f.ensures.result_value c.in-NoWord.is;
-      result_in_bounds = zero-le;
-    }
-
-pub returns-in-Word : goal.returns-in-Word
-returns-in-Word c = let a = c.args in
-    let y = c.byte in
-    let w = c.word-f in
-    let q = c.in-Word.is in
-    record {
-      result_value = minus_found a.text.now a.at y.result y.ensures c.if-byte-ne45.false a.end w.ensures.result_value q c.word_wide.ensures;
-      result_in_bounds = place_of_lem w.ensures.result_in_bounds q;
-    }
+pub returns : goal.returns
+returns c = let a = c.args in
+    let f = c.in_ok-f in
+    (minus_found a.text.now a.at c.byte.result c.byte.ensures c.if-byte-ne45.false a.end f.f.word f.f.next f.ensures.0 c.wrapping_neg.ensures c.wrapping_neg.type_inv, f.ensures.1)

@@ -1,11 +1,7 @@
 use mathlib.Core.Path.{◌≡◌}
-use Prim.Native.Nat.{◌-◌}
-use lib.ListN.{length, drop}
+use lib.ListN.{drop}
 use Rattle.text.specs.Reading.{digits_on}
 use Rattle.text.proofs.numbers.digits_on.Given as goal
 
-abbrev pub invariant-loop-v : goal.invariant-loop-v
-invariant-loop-v l = digits_on l.value (drop l.at l.text) ≡ digits_on l.v (drop l.i l.text)
-
-abbrev pub decreases-loop-v : goal.decreases-loop-v
-decreases-loop-v l = length l.text - l.i
+abbrev pub invariant-loop-i : goal.invariant-loop-i
+invariant-loop-i l = digits_on l.first (drop l.at l.text) ≡ digits_on l.value (drop l.i l.text)

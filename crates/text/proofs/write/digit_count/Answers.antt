@@ -1,33 +1,10 @@
 use native.Mathlib.Omega.{arith}
-use Rattle.text.proofs.Laws.Writing.{counted_one, counted}
+use Rattle.text.proofs.Laws.Writing.{one_digit, digits_counted}
 use Rattle.text.proofs.write.digit_count.Goals as goal
 
-pub returns-then-n-lt10-clause-value : goal.returns-then-n-lt10-clause-value
-returns-then-n-lt10-clause-value c = (counted_one c.args.n (omega arith)).0
+pub returns-in-Some-clause-value : goal.returns-in-Some-clause-value
+returns-in-Some-clause-value c = let p = c.in-Some in
+    digits_counted p.power c.args.n p.ensures.power_le p.ensures.next_power_gt
 
-pub returns-then-n-lt100-clause-value : goal.returns-then-n-lt100-clause-value
-returns-then-n-lt100-clause-value c = (counted 0 c.args.n (omega arith) (omega arith) (omega arith)).0
-
-pub returns-then-n-lt1000-clause-value : goal.returns-then-n-lt1000-clause-value
-returns-then-n-lt1000-clause-value c = (counted 1 c.args.n (omega arith) (omega arith) (omega arith)).0
-
-pub returns-then-n-lt10000-clause-value : goal.returns-then-n-lt10000-clause-value
-returns-then-n-lt10000-clause-value c = (counted 2 c.args.n (omega arith) (omega arith) (omega arith)).0
-
-pub returns-then-n-lt100000-clause-value : goal.returns-then-n-lt100000-clause-value
-returns-then-n-lt100000-clause-value c = (counted 3 c.args.n (omega arith) (omega arith) (omega arith)).0
-
-pub returns-then-n-lt1000000-clause-value : goal.returns-then-n-lt1000000-clause-value
-returns-then-n-lt1000000-clause-value c = (counted 4 c.args.n (omega arith) (omega arith) (omega arith)).0
-
-pub returns-then-n-lt10000000-clause-value : goal.returns-then-n-lt10000000-clause-value
-returns-then-n-lt10000000-clause-value c = (counted 5 c.args.n (omega arith) (omega arith) (omega arith)).0
-
-pub returns-then-n-lt100000000-clause-value : goal.returns-then-n-lt100000000-clause-value
-returns-then-n-lt100000000-clause-value c = (counted 6 c.args.n (omega arith) (omega arith) (omega arith)).0
-
-pub returns-then-n-lt1000000000-clause-value : goal.returns-then-n-lt1000000000-clause-value
-returns-then-n-lt1000000000-clause-value c = (counted 7 c.args.n (omega arith) (omega arith) (omega arith)).0
-
-pub returns-clause-value : goal.returns-clause-value
-returns-clause-value c = (counted 8 c.args.n (omega arith) (omega arith) (omega arith)).0
+pub returns-in-None-clause-value : goal.returns-in-None-clause-value
+returns-in-None-clause-value c = one_digit c.args.n (omega (arith, c.in-None.ensures.none))

@@ -1,18 +1,19 @@
 use native.Mathlib.Omega.{arith}
-use Rattle.text.proofs.Laws.WrittenTable.{sizes_few, table_written}
+use Rattle.plan.proofs.Laws.Header.{header_says, limits_say}
+use Rattle.text.proofs.Laws.WrittenTable.{table_written}
 use Rattle.text.proofs.write.write_table.Goals as goal
 
-pub write_body-requires : goal.write_body-requires
-write_body-requires c = let r = c.requires in
-    let few = sizes_few c.args.words.now r.words_value r.words_value_2 c.tables.result c.nodes.result c.items.result c.tables.ensures
-    c.nodes.ensures c.items.ensures in
-    record { at_bound = omega arith; tables_bound = few.0; nodes_bound = few.1.0; s_bound = few.1.1.0; s_in_bounds = few.1.1.1 }
+pub invariant_of-s : goal.invariant_of-s
+invariant_of-s c = let m = limits_say c.args.words.now c.requires.limits in
+    record { few_tables = omega arith; few_nodes = omega arith; few_items = omega arith }
 
-pub returns : goal.returns
-returns c = let a = c.args in
-    let r = c.requires in
+pub write_body-requires-clause-words_there : goal.write_body-requires-clause-words_there
+write_body-requires-clause-words_there c = let d = header_says c.args.words.now c.requires.header in
+    omega arith
+
+pub returns-clause-written_to : goal.returns-clause-written_to
+returns-clause-written_to c = let a = c.args in
     let l = c.write_line-next in
     let b = c.write_body in
-    let all = table_written a.words.now r.words_value r.words_value_2 c.tables.result c.nodes.result c.items.result c.tables.ensures
-    c.nodes.ensures c.items.ensures a.text.now l.new.text l.result b.new.text b.result l.ensures.written_to b.ensures.written_to in
-    record { written_to = all; upper_bound = omega arith }
+    table_written a.words.now c.requires.header c.requires.limits c.tables.result c.nodes.result c.items.result c.tables.ensures c.nodes.ensures c.items.ensures
+    a.text.now l.new.text l.result b.new.text b.result l.ensures.written_to b.ensures.written_to

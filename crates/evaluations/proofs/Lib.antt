@@ -1,2 +1,0 @@
--- The laws of the program that prints cells.
-pub mod Laws

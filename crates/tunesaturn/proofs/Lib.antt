@@ -1,3 +1,0 @@
--- What the answers of the C interface say.
-pub mod Says
-pub mod Gives
