@@ -9,7 +9,8 @@ use std::io::Read;
 
 // Fills room from the front until it is full, the input ends or a read fails, and lends what came.
 pub fn read_full<'a, R: Read>(from: &mut R, room: &'a mut [u8]) -> &'a [u8]
-    ensures { Consumes (R.remaining from.old) (R.remaining from.new) result.now }
+    ensures bytes { Consumes (R.remaining from.old) (R.remaining from.new) result.now }
+    ensures within { length result.now ≤ length room.old }
 {
     let mut count = 0;
     for _ in 0..room.len() {

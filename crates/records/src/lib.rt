@@ -1,7 +1,7 @@
 // Records of the programs that answer them: a part is a byte count and that many bytes, a number has its least byte first.
 #![tactic(auto)]
 
-ghost use Rattle.std.specs.Prelude.{◌++◌, codes, decimal, Some};
+ghost use Rattle.std.specs.Prelude.{◌++◌, ◌≤◌, codes, decimal, length, Some};
 
 use input::read_full;
 use std::io::{Read, Write};
@@ -37,7 +37,9 @@ pub fn read_number<R: Read>(from: &mut R) -> u32 {
 }
 
 // Reads a part of a record to the front of room, as much as it has room for, and lends what came.
-pub fn read_part<'a, R: Read>(from: &mut R, room: &'a mut [u8]) -> &'a [u8] {
+pub fn read_part<'a, R: Read>(from: &mut R, room: &'a mut [u8]) -> &'a [u8]
+    ensures { length result.now ≤ length room.old }
+{
     let count = (read_number(from) as usize).min(room.len());
     read_full(from, &mut room[..count])
 }
