@@ -3,9 +3,7 @@
 #![tactic(auto)]
 
 use input::words_from;
-use records::{Answer, RECORDS, print_name, read_part};
-use std::io;
-use std::io::{LineWriter, Write};
+use records::{Answer, RECORDS, read_part};
 
 fn answer(words: &[u32]) -> Answer {
     match plan::check(words) {
@@ -17,18 +15,20 @@ fn answer(words: &[u32]) -> Answer {
     }
 }
 
-fn main(rt: HostRuntime) -> io::Result<()> {
+// Output that fails is passed over, since the status is 0 in every case: hence each `let _ =`.
+fn main(rt: HostRuntime) {
     let mut from = rt.reader();
-    let mut to = LineWriter::new(rt.alloc(), io::writer(&rt))?;
     let mut name = [0u8; 4096];
     let mut bytes = [0u8; 65536];
     let mut words = [0u32; 16384];
     for _ in 0..RECORDS {
-        if !print_name(&mut from, &mut to, &mut name)? {
+        // Every record has a name.
+        let name = read_part(&mut from, &mut name);
+        if name.is_empty() {
             break;
         }
         let words = words_from(read_part(&mut from, &mut bytes), &mut words);
-        writeln!(to, "{}", answer(words))?;
+        let _ = rt.write_all(name);
+        let _ = println!(rt; "{}", answer(words));
     }
-    to.flush()
 }

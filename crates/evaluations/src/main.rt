@@ -5,9 +5,8 @@
 
 use evaluate::{EvaluateRefusal, evaluate};
 use input::words_from;
-use records::{Answer, RECORDS, print_name, read_number, read_part};
-use std::io;
-use std::io::{LineWriter, Write};
+use records::{Answer, RECORDS, read_number, read_part};
+use std::fmt;
 
 // What every cell of scratch and output is before an evaluation.
 const LENT: i64 = 1234567890123456789;
@@ -21,7 +20,7 @@ fn cells_from<'a>(bytes: &[u8], room: &'a mut [i64]) -> &'a [i64] {
     &room[..cells.len().min(room.len())]
 }
 
-fn print_cell<W: Write>(to: &mut W, cell: i64) -> io::Result<()> {
+fn print_cell<W: fmt::Write>(to: &mut fmt::Formatter<W>, cell: i64) -> fmt::Result {
     if cell == i64::MIN {
         write!(to, " null")
     } else {
@@ -30,7 +29,7 @@ fn print_cell<W: Write>(to: &mut W, cell: i64) -> io::Result<()> {
 }
 
 // The cells of the output up to its last one that was changed.
-fn print_cells<W: Write>(to: &mut W, out: &[i64]) -> io::Result<()> {
+fn print_cells<W: fmt::Write>(to: &mut fmt::Formatter<W>, out: &[i64]) -> fmt::Result {
     write!(to, " cells")?;
     let unchanged = out.iter().rev().take_while(|cell| **cell == LENT).count();
     for cell in &out[..out.len() - unchanged] {
@@ -54,14 +53,33 @@ fn scratch_state(scratch: &[i64]) -> u32 {
     }
 }
 
-fn print_refused<W: Write>(to: &mut W, number: u32, node: u32) -> io::Result<()> {
+fn print_refused<W: fmt::Write>(to: &mut fmt::Formatter<W>, number: u32, node: u32) -> fmt::Result {
     write!(to, "{} 0", Answer { number, node })
 }
 
-fn print_answer<W: Write>(to: &mut W, answer: Result<u32, EvaluateRefusal>) -> io::Result<()> {
+fn print_answer<W: fmt::Write>(
+    to: &mut fmt::Formatter<W>,
+    answer: Result<u32, EvaluateRefusal>,
+) -> fmt::Result {
     match answer {
         Ok(count) => write!(to, "{} {count}", Answer::ACCEPTED),
         Err(refusal) => print_refused(to, refusal.number(), refusal.node()),
+    }
+}
+
+// What a record's line says behind the name.
+#[derive(Clone, Copy)]
+struct Evaluation<'a> {
+    answer: Result<u32, EvaluateRefusal>,
+    out: &'a [i64],
+    scratch: &'a [i64],
+}
+
+impl fmt::Display for Evaluation<'_> {
+    fn fmt<W: fmt::Write>(&self, f: &mut fmt::Formatter<W>) -> fmt::Result {
+        print_answer(f, self.answer)?;
+        print_cells(f, self.out)?;
+        write!(f, " scratch {}", scratch_state(self.scratch))
     }
 }
 
@@ -72,9 +90,9 @@ fn lent(room: &mut [i64], cells: u32) -> &mut [i64] {
     &mut room[..count]
 }
 
-fn main(rt: HostRuntime) -> io::Result<()> {
+// Output that fails is passed over, since the status is 0 in every case: hence each `let _ =`.
+fn main(rt: HostRuntime) {
     let mut from = rt.reader();
-    let mut to = LineWriter::new(rt.alloc(), io::writer(&rt))?;
     let mut bytes = [0u8; 140000];
     let mut words = [0u32; 16384];
     let mut counts = [0u32; 64];
@@ -82,18 +100,24 @@ fn main(rt: HostRuntime) -> io::Result<()> {
     let mut scratch = [0i64; 300000];
     let mut out = [0i64; 20000];
     for _ in 0..RECORDS {
-        if !print_name(&mut from, &mut to, &mut bytes)? {
+        // Every record has a name, which is printed before the rest is read.
+        let name = read_part(&mut from, &mut bytes);
+        if name.is_empty() {
             break;
         }
+        let _ = rt.write_all(name);
         let limit = read_number(&mut from);
         let scratch = lent(&mut scratch, read_number(&mut from));
         let out = lent(&mut out, read_number(&mut from));
         let words = words_from(read_part(&mut from, &mut bytes), &mut words);
         let counts = words_from(read_part(&mut from, &mut bytes), &mut counts);
         let cells = cells_from(read_part(&mut from, &mut bytes), &mut cells);
-        print_answer(&mut to, evaluate(words, counts, cells, limit, scratch, out))?;
-        print_cells(&mut to, out)?;
-        writeln!(to, " scratch {}", scratch_state(scratch))?;
+        let answer = evaluate(words, counts, cells, limit, scratch, out);
+        let evaluation = Evaluation {
+            answer,
+            out,
+            scratch,
+        };
+        let _ = println!(rt; "{evaluation}");
     }
-    to.flush()
 }

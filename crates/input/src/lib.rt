@@ -14,6 +14,9 @@ pub fn read_full<'a, R: Read>(from: &mut R, room: &'a mut [u8]) -> &'a [u8]
 {
     let mut count = 0;
     for _ in 0..room.len() {
+        if count == room.len() {
+            break;
+        }
         match from.read(&mut room[count..]) {
             Ok(more) if 0 < more => count += more,
             _ => break,

@@ -2,9 +2,8 @@
 #![tactic(auto)]
 
 use programs::{INPUT_WORDS, list, print_refused, read_words};
-use std::io;
 
-fn main(rt: HostRuntime) -> io::Result<()> {
+fn main(rt: HostRuntime) {
     let mut room = [0u32; INPUT_WORDS];
     match read_words(&mut rt.reader(), &mut room) {
         Some(words) => list(&rt, words),

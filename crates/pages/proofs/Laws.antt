@@ -5,4 +5,5 @@ pub mod Output
 pub mod Pages
 pub mod Sets
 pub mod SmallPositions
+pub mod Words
 pub mod Writer

@@ -28,16 +28,24 @@ pub record Holds (widths : List ℕ) (page : Page) (out : List Node) (xs : List 
   pub items_are : take page.item_count page.items ≡ all_items out ++ xs
   pub rows_are : (i : ℕ) → get_or page.rows i 0 ≡ (shape_at widths out i).width
 
+-- all but the items is as it was
+pub record ItemsAlone (page page' : Page) : Type 0 where
+  pub nodes : page'.nodes ≡ page.nodes
+  pub rows : page'.rows ≡ page.rows
+  pub node_count : page'.node_count ≡ page.node_count
+
 -- the page has got more items of the next node
 pub record Wrote (page page' : Page) (new : List (List ℕ)) : Type 0 where
   pub holds : (widths : List ℕ) (out : List Node) (xs : List (List ℕ)) → Holds widths page out xs → Holds widths page' out (xs ++ new)
+  pub alone : ItemsAlone page page'
 
 -- they would be too much
-pub record Missed (page : Page) (new : List (List ℕ)) : Type 0 where
+pub record Missed (page page' : Page) (new : List (List ℕ)) : Type 0 where
   pub over : (widths : List ℕ) (out : List Node) (xs : List (List ℕ)) → Holds widths page out xs → Fits widths out (xs ++ new) → ⊥
+  pub alone : ItemsAlone page page'
 
 abbrev pub Added : Page → Page → Result Unit OverLimits → List (List ℕ) → Type 0
-Added page page' result new = MatchResult result (λ _. Wrote page page' new) (λ _. Missed page new)
+Added page page' result new = MatchResult result (λ _. Wrote page page' new) (λ _. Missed page page' new)
 
 -- the page has the nodes out, of which the result is the last, or it would be too much
 abbrev pub Leaves : List ℕ → Page → List Node → Result ℕ OverLimits → Type 0
@@ -84,9 +92,15 @@ pub record Headed (widths : List ℕ) (out : List Node) (first : ℕ) (head : He
   pub extra_is : extra ≡ extra_of widths n
   pub first_is : first ≡ length (all_items out)
 
+-- all but the nodes and their widths is as it was
+pub record NodesAlone (page page' : Page) : Type 0 where
+  pub items : page'.items ≡ page.items
+  pub item_count : page'.item_count ≡ page.item_count
+
 pub record Pushed (page page' : Page) (result : Result ℕ OverLimits) (first : ℕ) (head : Head) (extra : ℕ) : Type 0 where
   pub written : (widths : List ℕ) (out : List Node) (n : Node) → Holds widths page out (parts n).items → Headed widths out first head extra n
       → Leaves widths page' (out ++ (n ∷ [])) result
+  pub alone : NodesAlone page page'
 
 -- ---- what has been written before a call and after it
 

@@ -1,22 +1,23 @@
-// A domain: its node, its width, and for each level around the columns that it keeps of it; None where the level is not read.
-ghost use Rattle.std.specs.Prelude.{◌≡◌, ◌<◌, ◌≤◌};
+// A domain: its node, its width, and for each level around a set and the width in front of it; None where the level is not read.
+ghost use Rattle.std.specs.Prelude.{◌≡◌, ◌<◌, ◌≤◌, IfSome};
+ghost use Rattle.std.proofs.Props.{props};
 ghost use Rattle.algebra.specs.Domains as algebra;
 
 use crate::sets::ColumnSet;
 
-// A level that is read: which columns are kept of what was there, and the width in front of the level's own row.
+// A level: which columns are kept of what was there, and where it is read the width in front of its own row.
 #[derive(Clone, Copy, Debug, PartialEq, Eq)]
 pub struct Level {
     pub columns: ColumnSet,
-    pub base: u32,
-    pub ghost narrow: { base ≤ 64 },
+    pub base: Option<u32>,
+    pub ghost narrow: { IfSome base (λ b. b ≤ 64) } by { Prim.hlevel props },
 }
 
 #[derive(Clone, Copy, Debug, PartialEq, Eq)]
 pub struct Domain {
     pub node: u32,
     pub width: u32,
-    pub levels: [Option<Level>; 8],
+    pub levels: [Level; 8],
     pub ghost narrow: { width ≤ 64 },
 }
 
@@ -30,7 +31,10 @@ impl Domain {
         Domain {
             node: 0,
             width: 0,
-            levels: [None; 8],
+            levels: [Level {
+                columns: ColumnSet::EMPTY,
+                base: None,
+            }; 8],
         }
     }
 
@@ -40,20 +44,18 @@ impl Domain {
         ensures { result ≡ place_in self.now level position }
     {
         let own = level as usize;
-        let Some(read) = self.levels[own] else {
+        let Some(base) = self.levels[own].base else {
             return 0;
         };
-        let mut place = read.columns.rank(read.base + position);
+        let mut place = self.levels[own].columns.rank(base + position);
         for l in (0..own).rev() {
-            if let Some(read) = self.levels[l] {
-                place = read.columns.rank(place);
-            }
+            place = self.levels[l].columns.rank(place);
         }
         place
     }
 
     // One level more in front.
-    fn deeper(&self, node: u32, width: u32, level: Option<Level>) -> Domain
+    fn deeper(&self, node: u32, width: u32, level: Level) -> Domain
         requires { width ≤ 64 }
         ensures { Deeper self.now result node width level }
     {
@@ -71,15 +73,19 @@ impl Domain {
     {
         let level = Level {
             columns: set,
-            base: self.width,
+            base: Some(self.width),
         };
-        self.deeper(node, set.len(), Some(level))
+        self.deeper(node, set.len(), level)
     }
 
     // The same domain inside a dependent join whose left row is not read.
     pub fn inside(&self) -> Domain
         ensures { (D : algebra.Domain) → Means self.now D → Means result (algebra.inside D) }
     {
-        self.deeper(self.node, self.width, None)
+        let level = Level {
+            columns: ColumnSet::ALL,
+            base: None,
+        };
+        self.deeper(self.node, self.width, level)
     }
 }

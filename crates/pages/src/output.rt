@@ -7,6 +7,16 @@ ghost use Rattle.pages.specs.Output.{table, Writable};
 use crate::page::Page;
 use plan::words::tables;
 
+// Words written over as many others. Word by word: for the few widths of a plan's tables no call is worth it.
+fn copy_words(from: &[u32], to: &mut [u32])
+    requires { length from.now ≡ length to.old }
+    ensures { to.new ≡ from.now }
+{
+    for k in 0..from.len() {
+        to[k] = from[k];
+    }
+}
+
 impl Page {
     // How many words a plan with the tables of words and what is written has.
     pub fn total_words(&self, words: &[u32]) -> usize
@@ -29,7 +39,7 @@ impl Page {
         let total = at_items + 7 * i;
         let header = [total, t, 8, n, at_nodes, i, at_items, 0];
         out[..8].copy_from_slice(&header);
-        out[8..at_nodes as usize].copy_from_slice(&words[8..at_nodes as usize]);
+        copy_words(&words[8..at_nodes as usize], &mut out[8..at_nodes as usize]);
         out[at_nodes as usize..at_items as usize].copy_from_slice(
             self.nodes[..n as usize].as_flattened(),
         );

@@ -106,7 +106,8 @@ impl Head {
     }
 }
 
-#[derive(Drop)]
+// A copy is 63 KB: it is lent wherever it is passed.
+#[derive(Clone, Copy)]
 pub struct Page {
     pub nodes: NodeWords,
     pub rows: PerNode,

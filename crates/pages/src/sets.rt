@@ -14,6 +14,8 @@ impl ColumnSet {
 
     pub const EMPTY: ColumnSet = ColumnSet { bits: 0 };
 
+    pub const ALL: ColumnSet = ColumnSet { bits: u64::MAX };
+
     pub fn with(self, position: u32) -> ColumnSet
         requires { position < 64 }
         ensures { result.bits ≡ bit_or self.bits (2 ^ position) }
@@ -52,7 +54,7 @@ impl ColumnSet {
         ensures value { result ≡ spec.rank self 64 }
         ensures upper_bound { result ≤ 64 }
     {
-        self.bits.count_ones()
+        self.rank(Self::SIZE)
     }
 
     pub fn is_empty(self) -> bool

@@ -1,5 +1,5 @@
 // The kind of a join, decoded.
-ghost use Rattle.std.specs.Prelude.{◌≡◌, ◌+◌, ◌<◌, ◌^◌};
+ghost use Rattle.std.specs.Prelude.{◌≡◌};
 ghost use Rattle.algebra.specs.Plan.{join_width};
 ghost use Rattle.plan.specs.Words as spec;
 ghost use Rattle.plan.specs.Plan.{kind_of};
@@ -21,7 +21,14 @@ impl JoinKind {
     pub fn of(words: &[u32], n: u32) -> Self
         ensures { meant_kind result ≡ kind_of (spec.kind words.now n) }
     {
-        match kind(words, n) {
+        JoinKind::from_number(kind(words, n))
+    }
+
+    // The kind with a number; one that no kind has is taken for an inner join's.
+    pub fn from_number(number: u32) -> Self
+        ensures { meant_kind result ≡ kind_of number }
+    {
+        match number {
             2 => JoinKind::Semi,
             3 => JoinKind::Anti,
             4 => JoinKind::LeftOuter,
@@ -41,13 +48,12 @@ impl JoinKind {
     }
 
     // How wide a row of such a join is.
-    pub fn width(self, left: usize, right: usize) -> usize
-        requires { left + right < 2 ^ 32 }
+    pub fn width(self, left: u32, right: u32) -> usize
         ensures { result ≡ join_width (meant_kind self) left right }
     {
         match self {
-            JoinKind::Semi | JoinKind::Anti => left,
-            JoinKind::Inner | JoinKind::LeftOuter => left + right,
+            JoinKind::Semi | JoinKind::Anti => left as usize,
+            JoinKind::Inner | JoinKind::LeftOuter => left as usize + right as usize,
         }
     }
 }

@@ -1,8 +1,8 @@
 // Refusal 5: a row wider than 64.
 ghost use Rattle.std.specs.Prelude.{◌≡◌, ℕ, ◌≤◌, ◌<◌, get_or};
-ghost use Rattle.algebra.specs.Plan.{width_of};
+ghost use Rattle.algebra.specs.Plan.{width_of, join_width};
 ghost use Rattle.plan.specs.Words as spec;
-ghost use Rattle.plan.specs.Plan.{node_at, widths_of};
+ghost use Rattle.plan.specs.Plan.{kind_of, node_at, widths_of};
 ghost use Rattle.plan.specs.Promise.{Formed};
 ghost use Rattle.plan.specs.Passes.{Measured};
 
@@ -19,6 +19,13 @@ use crate::{PerNode, Plan};
 pub struct Widths {
     pub rows: PerNode,
     pub narrow: u32,
+}
+
+// The width of a row of a join whose kind has the number k.
+pub fn join_width(k: u32, l: u32, r: u32) -> usize
+    ensures { result ≡ join_width (kind_of k) l r }
+{
+    JoinKind::from_number(k).width(l, r)
 }
 
 // The width of node n, from those of its inputs.
@@ -39,7 +46,7 @@ fn node_width(words: &[u32], n: u32, rows: &PerNode) -> u32
         }
         Operator::Join | Operator::Dependent => {
             let r = rows[right(words, n) as usize];
-            JoinKind::of(words, n).width(rows[l as usize] as usize, r as usize) as u32
+            JoinKind::of(words, n).width(rows[l as usize], r) as u32
         }
     }
 }

@@ -1,6 +1,7 @@
 // Each word of a plan table by its name: the only place that knows where words stand.
 ghost use Rattle.std.specs.Prelude.{◌≡◌};
 ghost use Rattle.plan.specs.Words as spec;
+ghost use Rattle.plan.specs.Verdict.{has_right};
 
 // Word i, 0 past the end.
 pub fn word(words: &[u32], i: usize) -> u32
@@ -100,4 +101,11 @@ pub fn position(words: &[u32], j: u32) -> u32
     ensures { result ≡ spec.item_word words.now j 3 }
 {
     item_word(words, j, 3)
+}
+
+// Join, groupjoin and dependent join have a right input; a number that no operator has stands for none.
+pub fn has_right(o: u32) -> bool
+    ensures { result ≡ has_right o }
+{
+    matches!(o, 5 | 7 | 8)
 }

@@ -3,10 +3,9 @@
 
 use input::read_full;
 use programs::{LONGEST_PLAN, front, list, print_refused};
-use std::io;
 use text::{Text, read_text};
 
-fn list_text(rt: &impl Print, text: &[u8]) -> io::Result<()> {
+fn list_text(rt: &impl Print, text: &[u8]) {
     let mut words = [0u32; LONGEST_PLAN];
     match read_text(text, &mut words) {
         Ok(count) => list(rt, front(&words, count)),
@@ -14,8 +13,8 @@ fn list_text(rt: &impl Print, text: &[u8]) -> io::Result<()> {
     }
 }
 
-fn main(rt: HostRuntime) -> io::Result<()> {
+fn main(rt: HostRuntime) {
     // One byte more than is read, so that a longer text is refused as one.
     let mut room = [0u8; Text::LIMIT + 1];
-    list_text(&rt, read_full(&mut rt.reader(), &mut room))
+    list_text(&rt, read_full(&mut rt.reader(), &mut room));
 }

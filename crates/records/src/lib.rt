@@ -4,8 +4,8 @@
 ghost use Rattle.std.specs.Prelude.{◌++◌, ◌≤◌, codes, decimal, length, Some};
 
 use input::read_full;
-use std::io::{Read, Write};
-use std::{fmt, io};
+use std::fmt;
+use std::io::Read;
 
 // At most so many records are read, so that every input ends.
 pub const RECORDS: u32 = 1000;
@@ -42,15 +42,4 @@ pub fn read_part<'a, R: Read>(from: &mut R, room: &'a mut [u8]) -> &'a [u8]
 {
     let count = (read_number(from) as usize).min(room.len());
     read_full(from, &mut room[..count])
-}
-
-// Reads a record's name and prints it; false where the input has no more, since every record has a name.
-pub fn print_name<R: Read, W: Write>(
-    from: &mut R,
-    to: &mut W,
-    room: &mut [u8],
-) -> io::Result<bool> {
-    let name = read_part(from, room);
-    to.write_all(name)?;
-    Ok(!name.is_empty())
 }

@@ -3,6 +3,8 @@ ghost use Rattle.std.specs.Prelude.{◌≡◌, cond, map, ◌+◌, ◌*◌, ◌-
 ghost use Rattle.store.specs.Cells.{cell, written};
 ghost use Rattle.store.specs.Rows.{source, place_of, row_of, Stands, Input};
 
+use crate::cells::{copy_cells, copy_within};
+
 #[derive(Clone, Copy)]
 pub struct Block {
     pub table: bool,
@@ -49,8 +51,8 @@ pub fn copy_row(cells: &[i64], b: Block, i: usize, to: usize, scratch: &mut [i64
 {
     let from = b.from + i * b.width;
     if b.table {
-        scratch[to..to + b.width].copy_from_slice(&cells[from..from + b.width]);
+        copy_cells(cells, from, scratch, to, b.width);
     } else {
-        scratch.copy_within(from..from + b.width, to);
+        copy_within(scratch, from, to, b.width);
     }
 }

@@ -2,18 +2,20 @@
 #![tactic(auto)]
 
 use programs::{INPUT_WORDS, front, print_refused, read_words};
-use std::io;
 use text::{Text, write_text};
 
-fn print_text(rt: &impl Print, words: &[u32]) -> io::Result<()> {
+fn print_text(rt: &impl Print, words: &[u32]) {
     let mut text = [0u8; Text::LONGEST];
     match write_text(words, &mut text) {
-        Ok(count) => rt.write_all(front(&text, count)),
+        Ok(count) => {
+            // Output that fails is passed over, since the status is 0 in every case (docs/PLANS.md).
+            let _ = rt.write_all(front(&text, count));
+        }
         Err(refusal) => print_refused(rt, refusal.number(), 0),
     }
 }
 
-fn main(rt: HostRuntime) -> io::Result<()> {
+fn main(rt: HostRuntime) {
     let mut room = [0u32; INPUT_WORDS];
     match read_words(&mut rt.reader(), &mut room) {
         Some(words) => print_text(&rt, words),

@@ -174,6 +174,15 @@ module _ (rows : List ℤ) (width p : ℕ) (is : List ℕ) where
       go true h = small_number (add_up vs) (omega (arith, sum_small most ranged 0)) ∙ sym (summed_some vs h)
       go false h = sym (summed_none vs h)
 
+  -- no number was met
+  pub sum_nothing : Running None vs → value null_cell ≡ summed vs
+  unfolding value
+  sum_nothing e = go (any is_number vs) refl e
+    where
+      go : (t : Bool) → any is_number vs ≡ t → None ≡ cond t (Some (add_up vs)) None → value null_cell ≡ summed vs
+      go true h q = absurd (cc)
+      go false h q = sym (summed_none vs h)
+
 -- a column's cell, which the code reads, is there
 pub column_inside : (rows : List ℤ) (width p : ℕ) (is : List ℕ) (i : ℕ) → There rows width is → p < width → i < length is
     → get_or is i 0 * width + p < length rows

@@ -1,70 +1,81 @@
 -- Where an outer column stands in a domain as the code keeps it.
 use mathlib.Core.Path.{◌≡◌, refl, ap, sym, ◌∙◌}
 use mathlib.Core.List.{List}
-use Prim.Native.Nat.{ℕ, zero, suc, ◌+◌, ◌-◌, ◌<◌, ◌≤◌}
+use Prim.Native.Nat.{ℕ, zero, suc, ◌+◌, ◌-◌, ◌^◌, ◌<◌, ◌≤◌}
 use native.Mathlib.Omega.{arith}
 use lib.ListN.{length, get_or}
 use Rattle.std.proofs.lemmas.List.{get_or_default}
-use Rattle.std.specs.declared.option.Option.{Option}
 use Rattle.std.specs.declared.option.Option.TheVariants.{Some, None}
 use Rattle.algebra.specs.Columns.{Column}
 use Rattle.algebra.specs.Domains as algebra
 use Rattle.pages.specs.declared.domain.Domain.{Domain}
 use Rattle.pages.specs.declared.domain.Level.{Level}
 use Rattle.pages.specs.declared.sets.ColumnSet.{ColumnSet}
+use Rattle.pages.specs.declared.sets.TheConstants.ColumnSet.{ALL}
 use Rattle.pages.specs.Sets.{rank, members}
-use Rattle.pages.specs.Domains.{through, climb, start, place_in, Means, Deeper, Inner}
-use Rattle.pages.proofs.Laws.Sets.{rank_few, below_members, length_members}
+use Rattle.pages.specs.Domains.{none, through, climb, before, start, place_in, Means, Deeper, Inner}
+use Rattle.pages.proofs.Laws.Sets.{rank_le, rank_few, rank_full, below_members, length_members}
 
 -- ---- through the levels
 
-through_zero : (level : Option Level) → through level 0 ≡ 0
-unfolding rank
-through_zero None = refl
-through_zero (Some level) = refl
-
 -- nothing is kept in front of the first column
-climb_zero : (levels : List (Option Level)) (l : ℕ) → climb levels l 0 ≡ 0
+climb_zero : (levels : List Level) (l : ℕ) → climb levels l 0 ≡ 0
+unfolding rank
 climb_zero levels zero = refl
-climb_zero levels (suc l) = rw (through_zero (get_or levels l None)) (climb_zero levels l)
+climb_zero levels (suc l) = climb_zero levels l
 
--- the level of an index
-pub level_at : (levels : List (Option Level)) (l : ℕ) (given : Option Level) {level : Option Level} → l < 8 → length levels ≡ 8 → get_or levels l given ≡ level
-    → get_or levels l None ≡ level
-level_at levels l given h size e = get_or_default levels l None given (omega arith) ∙ e
+-- what is kept of a level is few columns
+climb_few : (levels : List Level) (l q : ℕ) → (get_or levels 0 none).columns.bits < 2 ^ 64 → climb levels (suc l) q ≤ 64
+climb_few levels zero q f = rank_few (get_or levels 0 none).columns q f
+climb_few levels (suc l) q f = climb_few levels l (through (get_or levels (suc l) none) q) f
 
--- a level that is not read has no columns
-pub unread : (d : Domain) (l p : ℕ) → get_or d.levels l None ≡ None → 0 ≡ place_in d l p
-unread d l p e = rw e (sym (climb_zero d.levels l))
+module _ (d : Domain) (l p : ℕ) (given : Level) (h : l < 8) (size : length d.levels ≡ 8) where
+  -- the level of an index
+  level_at : get_or d.levels l none ≡ get_or d.levels l given
+  level_at = get_or_default d.levels l none given (omega arith)
 
--- where a column stands in the set of its level
-pub read : (d : Domain) (l p r : ℕ) {level : Level} → get_or d.levels l None ≡ Some level → r ≡ rank level.columns (level.base + p)
-    → climb d.levels l r ≡ place_in d l p
-read d l p r e f = rw (e, f)
+  -- a level that is not read has no columns
+  pub unread : (get_or d.levels l given).base ≡ None → 0 ≡ place_in d l p
+  unread e =
+      let f : (get_or d.levels l none).base ≡ None = ap (λ (x : Level). x.base) level_at ∙ e in
+      rw f (sym (climb_zero d.levels (suc l)))
+
+  -- where a column stands in the set of its level
+  pub read : {base r : ℕ} (other : Level) → (get_or d.levels l given).base ≡ Some base → r ≡ rank (get_or d.levels l other).columns (base + p)
+      → climb d.levels l r ≡ place_in d l p
+  read {base} other e f =
+      let g : (get_or d.levels l none).base ≡ Some base = ap (λ (x : Level). x.base) level_at ∙ e in
+      let s : (get_or d.levels l none).columns ≡ (get_or d.levels l other).columns =
+      ap (λ (x : Level). x.columns) (get_or_default d.levels l none other (omega arith)) in
+      rw (f, g, s)
 
 -- one level passed, in the code's arithmetic
-pub passed : (levels : List (Option Level)) (l q r : ℕ) {x : ℕ} {level : Option Level} → climb levels l q ≡ x → 0 < l → get_or levels (l - 1) None ≡ level
-    → r ≡ through level q
-    → climb levels (l - 1) r ≡ x
-passed levels zero q r e h f g = absurd (omega arith)
-passed levels (suc l) q r e h f g = let k : suc l - 1 ≡ l = omega arith in let f' = rw k at f in rw (k, g, ← f') e
+pub passed : (levels : List Level) (l q r : ℕ) (given : Level) {x : ℕ} → climb levels l q ≡ x → 0 < l → l ≤ 8 → length levels ≡ 8
+    → r ≡ rank (get_or levels (l - 1) given).columns q → climb levels (l - 1) r ≡ x
+passed levels zero q r given e h few size f = absurd (omega arith)
+passed levels (suc l) q r given e h few size f =
+    let k : suc l - 1 ≡ l = omega arith in
+    let s : (get_or levels l none).columns ≡ (get_or levels l given).columns =
+    ap (λ (x : Level). x.columns) (get_or_default levels l none given (omega arith)) in
+    let f' = rw k at f in
+    rw (k, f', ← s) e
 
 -- all levels passed
-pub passed_all : (levels : List (Option Level)) (l q : ℕ) {x : ℕ} → climb levels l q ≡ x → l ≤ 0 → q ≡ x
+pub passed_all : (levels : List Level) (l q : ℕ) {x : ℕ} → climb levels l q ≡ x → l ≤ 0 → q ≡ x
 passed_all levels zero q e h = e
 passed_all levels (suc l) q e h = absurd (omega arith)
 
 -- one level more in front
-climb_deeper : (new old : List (Option Level)) (l q : ℕ) → ((k : ℕ) → suc k < 8 → get_or new (suc k) None ≡ get_or old k None) → l < 8
-    → climb new (suc l) q ≡ through (get_or new 0 None) (climb old l q)
+climb_deeper : (new old : List Level) (l q : ℕ) → ((k : ℕ) → suc k < 8 → get_or new (suc k) none ≡ get_or old k none) → l < 8
+    → climb new (suc l) q ≡ through (get_or new 0 none) (climb old l q)
 climb_deeper new old zero q f h = refl
-climb_deeper new old (suc l) q f h = rw (f l h) (climb_deeper new old l (through (get_or old l None) q) f (omega arith))
+climb_deeper new old (suc l) q f h = rw (f l h) (climb_deeper new old l (through (get_or old l none) q) f (omega arith))
 
 -- ---- one level more in front
 
-place_behind : (d r : Domain) → ((l : ℕ) → suc l < 8 → get_or r.levels (suc l) None ≡ get_or d.levels l None)
-    → (l p : ℕ) → suc l < 8 → place_in r (suc l) p ≡ through (get_or r.levels 0 None) (place_in d l p)
-place_behind d r f l p h = rw (f l h) (climb_deeper r.levels d.levels l (start (get_or d.levels l None) p) f (omega arith))
+place_behind : (d r : Domain) → ((l : ℕ) → suc l < 8 → get_or r.levels (suc l) none ≡ get_or d.levels l none)
+    → (l p : ℕ) → suc l < 8 → place_in r (suc l) p ≡ through (get_or r.levels 0 none) (place_in d l p)
+place_behind d r f l p h = rw (f l h) (climb_deeper r.levels d.levels l (start (get_or d.levels l none) p) f (omega arith))
 
 -- ---- what they mean
 
@@ -83,10 +94,10 @@ module _ {d r : Domain} {g : ℕ} {set : ColumnSet} {D : algebra.Domain} (ks : L
       counted q = sym (ap (λ (l : List ℕ). algebra.below l q) e ∙ below_members set q i.word)
 
       places : (l p : ℕ) → l < 8 → place_in r l p ≡ algebra.below ks (algebra.spot D l p)
-      places zero p h = i.first_start p ∙ ap (λ (w : ℕ). rank set (w + p)) m.width ∙ counted (D.width + p)
+      places zero p h = rw (i.first_set, i.first_base, m.width) (counted (D.width + p))
       places (suc l) p h =
           place_behind d r i.others l p h
-          ∙ i.first_through (place_in d l p)
+          ∙ ap (λ (s : ColumnSet). rank s (place_in d l p)) i.first_set
           ∙ ap (rank set) (m.place l p (omega arith))
           ∙ counted (D.place l p)
 
@@ -95,9 +106,19 @@ pub inner_domain_lem : {d r : Domain} {g : ℕ} {set : ColumnSet} {D : algebra.D
     → algebra.domain_keys D wl reads ≡ members set → Means r (algebra.inner_domain D wl reads g)
 inner_domain_lem {D} wl reads = inner_means (algebra.domain_keys D wl reads)
 
+-- no domain at all
+pub outside_means : {d : Domain} → d.node ≡ 0 → d.width ≡ 0 → ((l : ℕ) → l < 8 → (get_or d.levels l none).base ≡ None) → Means d algebra.outside
+outside_means {d} n w f = record {
+  node = n;
+  width = w;
+  narrow = omega arith;
+  place = λ l p h. rw (f l h) (climb_zero d.levels (suc l));
+}
+
 -- inside a dependent join whose left row is not read
-pub inside_means : {d r : Domain} → Deeper d r d.node d.width None → (D : algebra.Domain) → Means d D → Means r (algebra.inside D)
-inside_means {d} {r} i D m = record {
+pub inside_means : {d r : Domain} {level : Level} → Deeper d r d.node d.width level → level.columns ≡ ALL → level.base ≡ None
+    → (D : algebra.Domain) → Means d D → Means r (algebra.inside D)
+inside_means {d} {r} {level} i full read D m = record {
   node = i.node ∙ m.node;
   width = i.width ∙ m.width;
   narrow = rw i.width m.narrow;
@@ -105,5 +126,8 @@ inside_means {d} {r} i D m = record {
 }
   where
     places : (l p : ℕ) → l < 8 → place_in r l p ≡ algebra.inside_place D.place l p
-    places zero p h = rw i.first
-    places (suc l) p h = place_behind d r i.others l p h ∙ rw i.first (m.place l p (omega arith))
+    places zero p h = rw (i.first, read) (omega (arith, rank_le level.columns 0))
+    places (suc l) p h =
+        place_behind d r i.others l p h
+        ∙ rw (i.first, full)
+        (rank_full (place_in d l p) (climb_few d.levels l (before (get_or d.levels l none).base p) i.word) ∙ m.place l p (omega arith))

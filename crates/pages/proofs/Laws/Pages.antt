@@ -22,7 +22,7 @@ use Rattle.pages.specs.declared.page.Page.{Page}
 use Rattle.pages.specs.declared.page.OverLimits.{OverLimits}
 use Rattle.pages.specs.declared.page.Head.{Head}
 use Rattle.plan.specs.Codes.{number_of}
-use Rattle.pages.specs.Pages.{Fits, Holds, Wrote, Missed, Added, width_by, extra_of, kind_number, Headed, Pushed, Leaves}
+use Rattle.pages.specs.Pages.{Fits, Holds, ItemsAlone, Wrote, Missed, Added, width_by, extra_of, kind_number, Headed, Pushed, Leaves}
 
 -- ---- widths
 
@@ -120,12 +120,21 @@ fits_before {widths} out n f = record {
 
 -- ---- more items
 
+alone_then : {p q r : Page} → ItemsAlone p q → ItemsAlone q r → ItemsAlone p r
+alone_then f g = record { nodes = g.nodes ∙ f.nodes; rows = g.rows ∙ f.rows; node_count = g.node_count ∙ f.node_count }
+
 -- items, and then more
 pub wrote_then : {p q r : Page} (xs ys : List (List ℕ)) → Wrote p q xs → Wrote q r ys → Wrote p r (xs ++ ys)
-wrote_then xs ys f g = record { holds = λ widths out zs h. rw append_assoc at (g.holds widths out (zs ++ xs) (f.holds widths out zs h)) }
+wrote_then xs ys f g = record {
+  holds = λ widths out zs h. rw append_assoc at (g.holds widths out (zs ++ xs) (f.holds widths out zs h));
+  alone = alone_then f.alone g.alone;
+}
 
-pub missed_then : {p q : Page} (xs ys : List (List ℕ)) → Wrote p q xs → Missed q ys → Missed p (xs ++ ys)
-missed_then xs ys f g = record { over = λ widths out zs h t. g.over widths out (zs ++ xs) (f.holds widths out zs h) (rw append_assoc t) }
+pub missed_then : {p q r : Page} (xs ys : List (List ℕ)) → Wrote p q xs → Missed q r ys → Missed p r (xs ++ ys)
+missed_then xs ys f g = record {
+  over = λ widths out zs h t. g.over widths out (zs ++ xs) (f.holds widths out zs h) (rw append_assoc t);
+  alone = alone_then f.alone g.alone;
+}
 
 pub added_then : {p q : Page} (r : Page) (result : Result Unit OverLimits) (xs ys : List (List ℕ)) → Wrote p q xs → Added q r result ys
     → Added p r result (xs ++ ys)
@@ -133,24 +142,27 @@ added_then r (Ok u) xs ys f g = wrote_then xs ys f g
 added_then r (Err e) xs ys f g = missed_then xs ys f g
 
 -- what is over stays over
-pub missed_more : {p : Page} (xs ys : List (List ℕ)) → Missed p xs → Missed p (xs ++ ys)
-missed_more xs ys f = record { over = λ widths out zs h t. f.over widths out zs h (fits_fewer (zs ++ xs) ys (rw append_assoc t)) }
+pub missed_more : {p q : Page} (xs ys : List (List ℕ)) → Missed p q xs → Missed p q (xs ++ ys)
+missed_more xs ys f = record {
+  over = λ widths out zs h t. f.over widths out zs h (fits_fewer (zs ++ xs) ys (rw append_assoc t));
+  alone = f.alone;
+}
 
 pub wrote_none : (p : Page) → Wrote p p []
-wrote_none p = record { holds = λ widths out xs h. rw append-nil h }
+wrote_none p = record { holds = λ widths out xs h. rw append-nil h; alone = record { nodes = refl; rows = refl; node_count = refl } }
 
 -- the same items by another name
 pub wrote_as : {p q : Page} {new other : List (List ℕ)} → new ≡ other → Wrote p q new → Wrote p q other
 wrote_as {p} {q} e = subst (Wrote p q) e
 
-pub missed_as : {p : Page} {new other : List (List ℕ)} → new ≡ other → Missed p new → Missed p other
-missed_as {p} e = subst (Missed p) e
+pub missed_as : {p q : Page} {new other : List (List ℕ)} → new ≡ other → Missed p q new → Missed p q other
+missed_as {p} {q} e = subst (Missed p q) e
 
 pub added_as : (p q : Page) (result : Result Unit OverLimits) {new other : List (List ℕ)} → new ≡ other → Added p q result new → Added p q result other
 added_as p q result e = subst (Added p q result) e
 
 -- an error that a `?` hands on
-pub missed : (p q : Page) (result : Result Unit OverLimits) {new : List (List ℕ)} → IsErr result → Missed p new → Added p q result new
+pub missed : (p q : Page) (result : Result Unit OverLimits) {new : List (List ℕ)} → IsErr result → Missed p q new → Added p q result new
 missed p q result e f = MatchResult-from_err result _ _ e (λ _. f)
 
 pub over : (widths : List ℕ) (page : Page) (out : List Node) (result : Result ℕ OverLimits) → IsErr result → (Fits widths out [] → ⊥)
@@ -172,9 +184,12 @@ pub pushed_as : {p q : Page} {result : Result ℕ OverLimits} {first : ℕ} {hea
 pushed_as {p} {q} {result} {first} {extra = extra} e = subst (λ (h : Head). Pushed p q result first h extra) e
 
 -- 256 nodes are there already
-pub full_nodes : {page page' : Page} {e : OverLimits} {first : ℕ} {head : Head} {extra : ℕ} → 256 ≤ page.node_count
-    → Pushed page page' (Err e) first head extra
-full_nodes g = record { written = λ widths out n q h f. omega (arith, q.count, f.nodes, length-append out (n ∷ [])) }
+pub full_nodes : {page : Page} {e : OverLimits} {first : ℕ} {head : Head} {extra : ℕ} → 256 ≤ page.node_count
+    → Pushed page page (Err e) first head extra
+full_nodes g = record {
+  written = λ widths out n q h f. omega (arith, q.count, f.nodes, length-append out (n ∷ []));
+  alone = record { items = refl; item_count = refl };
+}
 
 module _ (page : Page) (first : ℕ) (head : Head) (extra : ℕ) (w count : ℕ) (counts : count ≡ page.item_count - first)
     (width : w ≡ width_by (λ i. get_or page.rows i 0) (number_of head.operator) head.left head.right (kind_number head.kind) count extra) where
@@ -192,8 +207,11 @@ module _ (page : Page) (first : ℕ) (head : Head) (extra : ℕ) (w count : ℕ)
         ∙ sym (ap (λ (s : Shape). s.width) (shape_last widths out n))
 
   -- its row is too wide
-  pub wide_node : 64 < w → {page' : Page} {e : OverLimits} → Pushed page page' (Err e) first head extra
-  wide_node g = record { written = λ widths out n q h f. omega (arith, width_is widths out n q h, f.rows (length out)) }
+  pub wide_node : 64 < w → {e : OverLimits} → Pushed page page (Err e) first head extra
+  wide_node g = record {
+    written = λ widths out n q h f. omega (arith, width_is widths out n q h, f.rows (length out));
+    alone = record { items = refl; item_count = refl };
+  }
 
   -- its words
   abbrev pub words : List ℕ
@@ -211,7 +229,10 @@ module _ (page : Page) (first : ℕ) (head : Head) (extra : ℕ) (w count : ℕ)
   -- it is written
   pub node_written : length page.nodes ≡ 256 → length page.rows ≡ 256 → page.node_count < 256 → w ≤ 64
       → Pushed page written_page (Ok page.node_count) first head extra
-  node_written long wide few narrow = record { written = λ widths out n q h. (held widths out n q h, omega (arith, q.count, longer out n)) }
+  node_written long wide few narrow = record {
+    written = λ widths out n q h. (held widths out n q h, omega (arith, q.count, longer out n));
+    alone = record { items = refl; item_count = refl };
+  }
     where
       longer : (out : List Node) (n : Node) → length (out ++ (n ∷ [])) ≡ length out + 1
       longer out n = length-append out (n ∷ [])

@@ -4,11 +4,11 @@ use mathlib.Core.Bool.{Bool, true, false, cond, ◌||◌}
 use mathlib.Core.List.{List, [], ◌∷◌, ◌++◌}
 use Prim.Native.Nat.{ℕ, zero, suc, ◌+◌, ◌-◌, ◌*◌, ◌/◌, ◌%◌, ◌^◌, ◌<◌, ◌≤◌, max, min}
 use native.Mathlib.Omega.{arith}
-use native.Mathlib.Nat.{one-mul, mod-lt, div-eq_of_lt}
+use native.Mathlib.Nat.{one-mul, mod-lt, div-eq_of_lt, zero-div}
 use native.Mathlib.Numerals.{one-add}
 use lib.Dec.{eqb, ltb}
 use lib.ListN.{length, length-append}
-use lib.Pow.{pow_pos, pow_mono, pow-lt, pow-add, shl_exact, shl-shr, mod-pow-add}
+use lib.Pow.{pow_pos, pow_mono, pow-lt, pow-add, shl_exact, shl-shr, mod-pow-add, ones_split, high, ones_lt}
 use lib.Bits.{bit_or, or_shr, or_step}
 use lib.Count.{ones, ones_in, ones_cat}
 use borrow.Author.Tests.{lt-ltb, le-ltb, ltb-true, ltb-false, eqb-true, eqb-false}
@@ -16,6 +16,7 @@ use Rattle.algebra.specs.Lists.{keep, upto}
 use Rattle.algebra.specs.Domains.{below}
 use Rattle.algebra.proofs.Lists.Keep.{keep_append}
 use Rattle.pages.specs.declared.sets.ColumnSet.{ColumnSet}
+use Rattle.pages.specs.declared.sets.TheConstants.ColumnSet.{EMPTY, ALL}
 use Rattle.pages.specs.Sets.{bit_of, in_set, rank, members}
 
 -- 1 << p at 64 bits
@@ -82,6 +83,28 @@ rank_few s q f = go (ltb q 64) refl
 -- what the code counts: all ones
 pub ones_all : (s : ColumnSet) (q : ℕ) → s.bits < 2 ^ 64 → 64 ≤ q → ones s.bits ≡ rank s q
 ones_all s q f h = let e : s.bits % 2 ^ 64 ≡ s.bits = omega arith in ap ones (sym e) ∙ ones_rank s 64 ∙ sym (rank_past s q f h)
+
+-- nothing stands in the empty set
+pub rank_none : (q : ℕ) → rank EMPTY q ≡ 0
+unfolding rank
+rank_none zero = refl
+rank_none (suc q) = rw (rank_none q, zero-div (2 ^ q))
+
+-- every position stands in the full set
+full_bit : (p : ℕ) → p < 64 → bit_of ALL p ≡ 1
+full_bit p h = go (63 - p) (omega arith)
+  where
+    go : (k : ℕ) → k + p ≡ 63 → bit_of ALL p ≡ 1
+    go k e =
+        let f : suc k + p ≡ 64 = omega arith in
+        let g : 18446744073709551615 ≡ (2 ^ suc k - 1) * 2 ^ p + (2 ^ p - 1) = ap (λ (n : ℕ). 2 ^ n - 1) (sym f) ∙ ones_split (suc k) p in
+        let i : 18446744073709551615 / 2 ^ p ≡ 2 ^ suc k - 1 = ap (λ (n : ℕ). n / 2 ^ p) g ∙ high (2 ^ suc k - 1) p (ones_lt p) in
+        rw i (omega (arith, pow_pos k))
+
+pub rank_full : (q : ℕ) → q ≤ 64 → rank ALL q ≡ q
+unfolding rank
+rank_full zero h = refl
+rank_full (suc q) h = omega (arith, rank_full q (omega arith), full_bit q h)
 
 -- ---- the list of a set's members
 

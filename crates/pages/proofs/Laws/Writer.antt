@@ -39,7 +39,7 @@ module _ (f : ℕ → List ℕ) {p₀ p : Page} (i : ℕ) (before : Wrote p₀ p
     step last = wrote_as with_one (wrote_then (map f (upto i)) (w ∷ []) before last)
 
     -- it is too much
-    pub stop : (n : ℕ) {new : List (List ℕ)} → i < n → map f (upto n) ≡ new → Missed p (w ∷ []) → Missed p₀ new
+    pub stop : (n : ℕ) {q : Page} {new : List (List ℕ)} → i < n → map f (upto n) ≡ new → Missed p q (w ∷ []) → Missed p₀ q new
     stop n g t last =
         let others = map (λ (k : ℕ). i + 1 + k) (upto (n - (i + 1))) in
         missed_as
@@ -60,7 +60,7 @@ module _ (f : ℕ → List ℕ) (passes : ℕ → Bool) {p₀ p : Page} (i : ℕ
       pub step_kept : {q r : Page} → r ≡ q → Wrote p q (w ∷ []) → Wrote p₀ r (map f (keep passes (upto (i + 1))))
       step_kept q last = rw q (wrote_as with_kept (wrote_then (map f (keep passes (upto i))) (w ∷ []) before last))
 
-      pub stop_kept : (n : ℕ) {new : List (List ℕ)} → i < n → map f (keep passes (upto n)) ≡ new → Missed p (w ∷ []) → Missed p₀ new
+      pub stop_kept : (n : ℕ) {q : Page} {new : List (List ℕ)} → i < n → map f (keep passes (upto n)) ≡ new → Missed p q (w ∷ []) → Missed p₀ q new
       stop_kept n g s last =
           let others = map (λ (k : ℕ). i + 1 + k) (upto (n - (i + 1))) in
           missed_as

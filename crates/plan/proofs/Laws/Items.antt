@@ -27,6 +27,10 @@ module _ (ws : List ℕ) (a low high : ℕ) where
   abbrev pub tags_in : ℕ → ℕ
   tags_in i = length (keep (λ x. between low high x.tag) (items_from ws a i))
 
+  -- there are no more of them than items
+  pub tags_most : (i : ℕ) → tags_in i ≤ i
+  tags_most i = omega (arith, keep_few (λ x. between low high x.tag) (items_from ws a i), numbered_length (λ i. item_at ws (a + i)) i)
+
 -- there are no more items of a sort than items
 pub sort_most : (ws : List ℕ) (a : ℕ) (s : Sort) (i : ℕ) → length (keep (is_of s) (items_from ws a i)) ≤ i
 sort_most ws a s i = omega (arith, keep_few (is_of s) (items_from ws a i), numbered_length (λ i. item_at ws (a + i)) i)

@@ -3,13 +3,23 @@ use mathlib.Core.Path.{◌≡◌, refl, sym, ◌∙◌}
 use mathlib.Core.Bool.{Bool, true, false, not}
 use mathlib.Core.List.{List}
 use mathlib.Core.Logic.{◌⊎◌, ⊎_elim}
-use Prim.Native.Nat.{ℕ, ◌+◌, ◌≤◌}
+use Prim.Native.Nat.{ℕ, ◌+◌, ◌≤◌, ◌<◌}
 use native.Mathlib.Omega.{arith}
 use native.Mathlib.Numerals.{add-one}
-use borrow.Author.Tests.{not-false, eq-eqb}
+use borrow.Author.Tests.{not-false, eq-eqb, ne_eqb}
 use Rattle.plan.specs.Words.{items, first_item, item_count}
-use Rattle.plan.specs.Verdict.{has_kind, items_before, count_right, node_right}
+use Rattle.plan.specs.Verdict.{has_right, has_kind, items_before, count_right, node_right}
 use Rattle.plan.proofs.Laws.Formed.{count_says, node_facts}
+
+-- ---- operators
+
+module _ (o : ℕ) where
+  -- which numbers have no right input
+  pub right_low : (o ≡ 5 → ⊥) → o < 7 → false ≡ has_right o
+  right_low e h = rw (ne_eqb o 5 e, ne_eqb o 7 (omega arith), ne_eqb o 8 (omega arith))
+
+  pub right_high : 9 ≤ o → false ≡ has_right o
+  right_high h = rw (ne_eqb o 5 (omega arith), ne_eqb o 7 (omega arith), ne_eqb o 8 (omega arith))
 
 -- ---- kinds
 

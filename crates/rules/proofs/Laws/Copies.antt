@@ -105,7 +105,7 @@ module _ (ws : List ℕ) (a : Accepted ws) (n : ℕ) (h : n < nodes ws) where
     module _ {p : Page} (o : Operator) (l x y : ℕ) (eo : number_of o ≡ operator ws n) (el : l ≡ left ws n)
         (ex : x ≡ first_item ws n) (ey : y ≡ item_count ws n) where
       -- the items are too much
-      pub copied_missed : Missed p (map item_words (items_from ws x y)) → (r : Page) (result : Result ℕ OverLimits) → IsErr result
+      pub copied_missed : {q : Page} → Missed p q (map item_words (items_from ws x y)) → (r : Page) (result : Result ℕ OverLimits) → IsErr result
           → GrowsOver (widths_of ws) p r result (λ out. out ++ (written ∷ []))
       copied_missed missed r result e = record {
         written = λ out h.

@@ -169,7 +169,7 @@ module _ {ws : List ℕ} {n a count : ℕ} (read : Read ws n a count) (b : has_r
   -- ---- where the first items are too much
 
   module _ (D : Domain) {w : ℕ} (i j : ℕ) {m : ℕ} (e : w ≡ D.width) (p : m ≡ conjunct_count ws n) where
-    pub copy_missed : {q : Page} → Missed q (map (moved_words D (shift_both 0 w 0)) (items_from ws a m)) → (r : Page) (result : Result ℕ OverLimits)
+    pub copy_missed : {q q' : Page} → Missed q q' (map (moved_words D (shift_both 0 w 0)) (items_from ws a m)) → (r : Page) (result : Result ℕ OverLimits)
         → IsErr result → Grows q r result (λ out. out ++ (with_copy D i j (node_at ws n) ∷ []))
     copy_missed {q} missed = go (eqb (operator ws n) 7) refl
       where
@@ -178,8 +178,8 @@ module _ {ws : List ℕ} {n a count : ℕ} (read : Read ws n a count) (b : has_r
         go true t = grows_missed _ _ (groupjoin_copied D i j e p (eqb-true _ 7 t)) (missed_more _ _ missed)
         go false t = grows_missed _ _ (join_copied D i j e p (eqb-false _ 7 t) (coded_back (kind_of (kind ws n)))) missed
 
-    pub open_missed : (wl wr : ℕ) {q : Page}
-        → Missed q (map conjunct_words (match (λ q. q) (λ q. w + wl + q) (upto w)) ++ map (moved_words D (shift_both wl w w)) (items_from ws a m))
+    pub open_missed : (wl wr : ℕ) {q q' : Page}
+        → Missed q q' (map conjunct_words (match (λ q. q) (λ q. w + wl + q) (upto w)) ++ map (moved_words D (shift_both wl w w)) (items_from ws a m))
         → (r : Page) (result : Result ℕ OverLimits) → IsErr result → Grows q r result (with_open D wl wr i j (node_at ws n))
     open_missed wl wr {q} missed r result x = go (eqb (operator ws n) 7) refl
       where

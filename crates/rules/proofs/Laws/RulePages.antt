@@ -51,15 +51,15 @@ module _ {p q : Page} {head : Head} {extra : ℕ} (new : List (List ℕ)) (n : N
   }
 
 -- the first of the items are too much
-pub missed_over : {p : Page} {head : Head} {extra : ℕ} {widths : List ℕ} {out : List Node} (new : List (List ℕ)) (n : Node) → Written new head extra n
-    → Missed p new → Holds widths p out [] → Fits widths (out ++ (n ∷ [])) [] → ⊥
+pub missed_over : {p q : Page} {head : Head} {extra : ℕ} {widths : List ℕ} {out : List Node} (new : List (List ℕ)) (n : Node) → Written new head extra n
+    → Missed p q new → Holds widths p out [] → Fits widths (out ++ (n ∷ [])) [] → ⊥
 missed_over {widths = widths} {out = out} new n w m h t = m.over widths out [] h (rw (w.items) (fits_before out n t))
 
 pub grows_over : {p : Page} (f : List Node → List Node) → ((widths : List ℕ) (out : List Node) → Holds widths p out [] → Fits widths (f out) [] → ⊥)
     → (r : Page) (result : Result ℕ OverLimits) → IsErr result → Grows p r result f
 grows_over f g r result e = record { written = λ widths out h. over widths r (f out) result e (g widths out h) }
 
-pub grows_missed : {p : Page} {head : Head} {extra : ℕ} (new : List (List ℕ)) (n : Node) → Written new head extra n → Missed p new
+pub grows_missed : {p q : Page} {head : Head} {extra : ℕ} (new : List (List ℕ)) (n : Node) → Written new head extra n → Missed p q new
     → (r : Page) (result : Result ℕ OverLimits) → IsErr result → Grows p r result (λ out. out ++ (n ∷ []))
 grows_missed new n w m = grows_over (λ out. out ++ (n ∷ [])) (λ widths out h. missed_over new n w m h)
 
@@ -119,7 +119,7 @@ module _ {p : Page} (k : JoinKind) (n m w i : ℕ) (h : (k ≡ Inner) ⊎ (k ≡
         ((grows (columns_around n m w) (project (around n m w) i) (projected n m w i) wrote r result pushed).written widths (out ++ (x ∷ [])) held);
   }
 
-  pub columns_missed : Missed p (columns_around n m w) → (r : Page) (result : Result ℕ OverLimits) → IsErr result → Drops k n m w i p r result
+  pub columns_missed : {q : Page} → Missed p q (columns_around n m w) → (r : Page) (result : Result ℕ OverLimits) → IsErr result → Drops k n m w i p r result
   columns_missed missed r result t = record {
     written = λ widths out x held e.
         rw (dropped_kind k (around n m w) (emit x out) h, ← e)
@@ -142,7 +142,7 @@ module _ (k : JoinKind) (n m w : ℕ) (x : Node) where
   pub drops_over : {p q : Page} {e : OverLimits} → Grows p q (Err e) (λ out. out ++ (x ∷ [])) → (r : Page) (result : Result ℕ OverLimits) → IsErr result → Grows p r result both
   drops_over g = grows_over both (λ widths out t. over_more (extends_dropping (meant_kind k) (around n m w) (emit x out)) (g.written widths out t))
 
-  pub drops_missed : {p : Page} {head : Head} {extra : ℕ} (new : List (List ℕ)) → Written new head extra x → Missed p new
+  pub drops_missed : {p q : Page} {head : Head} {extra : ℕ} (new : List (List ℕ)) → Written new head extra x → Missed p q new
       → (r : Page) (result : Result ℕ OverLimits) → IsErr result → Grows p r result both
   drops_missed new f g =
       grows_over both (λ widths out t. over_more (extends_dropping (meant_kind k) (around n m w) (emit x out)) (missed_over new x f g t))

@@ -48,9 +48,6 @@ overflow_add-result-in-Groupjoin c =
     let few = (items_asked _ c.requires.0 _ c.requires.1 c.first_item.ensures c.item_count-count.ensures).0 in
     omega (arith, sort_most c.args.words.now c.first_item.result Aggregate c.item_count-count.result)
 
-pub width-requires : goal.width-requires
-width-requires c = let rows = both_rows (goal.at.width-requires c).After-right in omega arith
-
 pub overflow_cast-result-in-Join : goal.overflow_cast-result-in-Join
 overflow_cast-result-in-Join c =
     let rows = both_rows (goal.at.overflow_cast-result-in-Join c).After-right in

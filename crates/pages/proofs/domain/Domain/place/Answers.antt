@@ -1,21 +1,21 @@
-use mathlib.Core.Path.{◌≡◌, refl}
+use mathlib.Core.Path.{◌≡◌}
 use native.Mathlib.Omega.{arith}
 use lib.ListN.{length}
 use borrow.Author.Rules.{rules}
-use Rattle.pages.proofs.Laws.Domains.{level_at, unread, read, passed, passed_all}
+use Rattle.pages.proofs.Laws.Domains.{unread, read, passed, passed_all}
 use Rattle.pages.proofs.domain.Domain.place.Goals as goal
 
 pub returns-in_default : goal.returns-in_default
 returns-in_default c = let size : length c.args.self.now.levels ≡ 8 = search rules in
-    unread c.args.self.now _ _ (level_at _ _ _ c.requires.0 size c.in_default.is)
+    unread c.args.self.now _ _ _ c.requires.0 size c.in_default.is
 
 pub loop-l-init : goal.loop-l-init
 loop-l-init c = let size : length c.args.self.now.levels ≡ 8 = search rules in
-    read c.args.self.now _ c.args.position c.rank-place.result (level_at _ _ _ c.requires.0 size c.in-Some.is) c.rank-place.ensures.value
+    read c.args.self.now _ c.args.position _ c.requires.0 size _ c.in-Some.is c.rank-place.ensures.value
 
 pub loop-l-preserved : goal.loop-l-preserved
 loop-l-preserved c = let size : length c.args.self.now.levels ≡ 8 = search rules in
-    passed _ _ _ _ c.loop-l.invariant c.loop-l-test.true (level_at _ _ _ (omega arith) size c.in_default-levels.is) refl
+    passed _ _ _ _ _ c.loop-l.invariant c.loop-l-test.true (omega arith) size c.rank-place-in-loop-l.ensures.value
 
 pub returns : goal.returns
 returns c = passed_all _ _ _ c.loop-l.invariant c.loop-l-test.false

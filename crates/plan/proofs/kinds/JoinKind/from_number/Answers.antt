@@ -1,6 +1,6 @@
 use native.Mathlib.Omega.{arith}
 use Rattle.plan.proofs.Laws.Codes.{kind_semi, kind_anti, kind_outer, kind_rest}
-use Rattle.plan.proofs.kinds.JoinKind.of.Goals as goal
+use Rattle.plan.proofs.kinds.JoinKind.from_number.Goals as goal
 
 pub returns-in-2 : goal.returns-in-2
 returns-in-2 c = kind_semi _ (omega arith)

@@ -1,0 +1,24 @@
+use mathlib.Core.Path.{refl, sym, ◌∙◌}
+use Prim.Native.Nat.{◌+◌}
+use native.Mathlib.Omega.{arith}
+use lib.ListN.{length-set}
+use mir.Syntax.{w64}
+use mir.ValLaws.{to_z-of_z}
+use borrow.Author.Rules.{rules}
+use Rattle.store.proofs.Laws.Cells.{written_nothing}
+use Rattle.store.proofs.Laws.Written.{copied_more, copied_before}
+use Rattle.store.proofs.cells.copy_within.Goals as goal
+
+pub loop-i-init : goal.loop-i-init
+loop-i-init c = (refl, sym (written_nothing _ c.args.to))
+
+pub loop-i-preserved : goal.loop-i-preserved
+loop-i-preserved c =
+    let a = c.args in
+    let l = c.loop-i in (
+      simp length-set l.invariant.0,
+      copied_more a.s.now a.at a.s.now a.to l.i l.s (omega arith) (omega arith)
+          l.invariant.1 _
+          (to_z-of_z w64 _ (search rules) ∙ copied_before a.s.now a.at a.s.now a.to l.i l.s (a.at + l.i)
+          l.invariant.1 (omega arith) (omega arith)),
+    )
