@@ -2,14 +2,14 @@
 #![tactic(auto)]
 
 use input::read_full;
-use programs::{LONGEST_PLAN, front, list, print_refused};
+use programs::{LONGEST_PLAN, front, list_regardless, print_refused_regardless};
 use text::{Text, read_text};
 
 fn list_text(rt: &impl Print, text: &[u8]) {
     let mut words = [0u32; LONGEST_PLAN];
     match read_text(text, &mut words) {
-        Ok(count) => list(rt, front(&words, count)),
-        Err(refusal) => print_refused(rt, refusal.number(), refusal.line()),
+        Ok(count) => list_regardless(rt, front(&words, count)),
+        Err(refusal) => print_refused_regardless(rt, refusal.number(), refusal.line()),
     }
 }
 

@@ -1,5 +1,5 @@
 // What the programs read and print alike: words from standard input, refusals, listings.
-// Output that fails is passed over, since the status is 0 in every case (docs/PLANS.md): hence each `let _ =`.
+// What is printed regardless passes over output that fails, since a program's status is 0 in every case (docs/PLANS.md): hence each `let _ =`.
 #![tactic(auto)]
 
 ghost use Rattle.std.specs.Prelude.{◌≡◌, take};
@@ -9,6 +9,7 @@ use plan::Plan;
 use plan::widths::work_out_widths;
 use plan::words::{item_count, items, kind, left, nodes, operator, right};
 use rewrite::rewrite;
+use std::io;
 use std::io::Read;
 
 // The words of the longest plan.
@@ -44,39 +45,150 @@ pub fn front<T>(buffer: &[T], count: u32) -> &[T]
     &buffer[..(count as usize).min(buffer.len())]
 }
 
-pub fn print_refused(rt: &impl Print, number: u32, node: u32) {
-    let _ = println!(rt; "refused {number} {node}");
+pub fn print_refused(rt: &impl Print, number: u32, node: u32) -> io::Result<()> {
+    println!(rt; "refused {number} {node}")
+}
+
+pub fn print_refused_regardless(rt: &impl Print, number: u32, node: u32) {
+    let _ = print_refused(rt, number, node);
 }
 
 // Number, operator, kind, left, right, item count, width.
-fn print_node(rt: &impl Print, words: &[u32], n: u32, width: u32) {
-    let _ = println!(rt;
+fn print_node(rt: &impl Print, words: &[u32], n: u32, width: u32) -> io::Result<()> {
+    println!(rt;
         "{n} {} {} {} {} {} {width}",
         operator(words, n),
         kind(words, n),
         left(words, n),
         right(words, n),
         item_count(words, n)
-    );
+    )
 }
 
-// The listing of an accepted plan; the rewriting of one always is.
-fn print_plan(rt: &impl Print, words: &[u32]) {
+// The listing of an accepted plan; the rewriting of one always is. Output that fails ends it.
+fn print_plan(rt: &impl Print, words: &[u32]) -> io::Result<()> {
+    let Ok(()) = plan::check(words) else {
+        return Ok(());
+    };
+    let widths = work_out_widths(words);
+    println!(rt; "nodes {} items {}", nodes(words), items(words))?;
+    for (n, width) in (0..nodes(words)).zip(widths.rows) {
+        print_node(rt, words, n, width)?;
+    }
+    Ok(())
+}
+
+// The same, past output that fails.
+fn print_plan_regardless(rt: &impl Print, words: &[u32]) {
     let Ok(()) = plan::check(words) else {
         return;
     };
     let widths = work_out_widths(words);
     let _ = println!(rt; "nodes {} items {}", nodes(words), items(words));
     for (n, width) in (0..nodes(words)).zip(widths.rows) {
-        print_node(rt, words, n, width);
+        let _ = print_node(rt, words, n, width);
     }
 }
 
-// The listing of a plan's rewriting, or the refusal.
-pub fn list(rt: &impl Print, words: &[u32]) {
+// The listing of a plan's rewriting, or the refusal. Output that fails ends it.
+pub fn list(rt: &impl Print, words: &[u32]) -> io::Result<()> {
     let mut out = [0u32; LONGEST_PLAN];
     match rewrite(words, &mut out) {
         Ok(count) => print_plan(rt, front(&out, count)),
         Err(refusal) => print_refused(rt, refusal.number(), refusal.node()),
+    }
+}
+
+// The same, past output that fails.
+pub fn list_regardless(rt: &impl Print, words: &[u32]) {
+    let mut out = [0u32; LONGEST_PLAN];
+    match rewrite(words, &mut out) {
+        Ok(count) => print_plan_regardless(rt, front(&out, count)),
+        Err(refusal) => print_refused_regardless(rt, refusal.number(), refusal.node()),
+    }
+}
+
+#[cfg(test)]
+mod tests {
+    use super::*;
+    use std::cell::Cell;
+    use std::fmt::Display;
+    use std::io::ErrorKind;
+
+    // An output that takes so many lines and fails from then on; it counts those that it is given.
+    #[derive(Drop)]
+    struct Lines {
+        room: u32,
+        given: Cell<u32>,
+    }
+
+    impl Lines {
+        fn with_room(room: u32) -> Lines {
+            Lines {
+                room,
+                given: Cell::new(0),
+            }
+        }
+
+        fn take(&self) -> io::Result<()> {
+            let given = self.given.get().saturating_add(1);
+            self.given.set(given);
+            if self.room < given {
+                return Err(ErrorKind::WriteZero.into());
+            }
+            Ok(())
+        }
+    }
+
+    impl Print for Lines {
+        fn print<D: Display + Drop>(&self, value: D) -> io::Result<()> {
+            self.take()
+        }
+
+        fn println<D: Display + Drop>(&self, value: D) -> io::Result<()> {
+            self.take()
+        }
+
+        fn write_all(&self, bytes: &[u8]) -> io::Result<()> {
+            self.take()
+        }
+    }
+
+    // A scan of a table of width 1, and all of its rows: three lines are listed.
+    const ALL_ROWS: [u32; 21] = [
+        21, 1, 8, 2, 9, 0, 21, 0, 1, 1, 0, 0, 0, 0, 0, 2, 0, 0, 0, 0, 0,
+    ];
+
+    #[test]
+    fn answers_output_that_fails(rt: HostRuntime) {
+        for (room, done) in [(0, false), (1, true)] {
+            assert_eq!(rt;
+                print_refused(&Lines::with_room(room), 1, 0).is_ok(),
+                done,
+                "refused, {room}"
+            );
+            assert_eq!(rt;
+                list(&Lines::with_room(room), &[]).is_ok(),
+                done,
+                "no plan, {room}"
+            );
+        }
+        for (room, given, done) in [(0, 1, false), (1, 2, false), (2, 3, false), (3, 3, true)] {
+            let to = Lines::with_room(room);
+            assert_eq!(rt; list(&to, &ALL_ROWS).is_ok(), done, "room for {room}");
+            assert_eq!(rt; to.given.get(), given, "lines, room for {room}");
+        }
+    }
+
+    #[test]
+    fn prints_regardless(rt: HostRuntime) {
+        for room in 0..4 {
+            let to = Lines::with_room(room);
+            list_regardless(&to, &ALL_ROWS);
+            assert_eq!(rt; to.given.get(), 3, "room for {room}");
+            list_regardless(&to, &[]);
+            print_refused_regardless(&to, 1, 0);
+            assert_eq!(rt; to.given.get(), 5, "room for {room}");
+        }
     }
 }

@@ -1,7 +1,7 @@
 // Reads plan words from standard input, least byte first, and prints their text.
 #![tactic(auto)]
 
-use programs::{INPUT_WORDS, front, print_refused, read_words};
+use programs::{INPUT_WORDS, front, print_refused_regardless, read_words};
 use text::{Text, write_text};
 
 fn print_text(rt: &impl Print, words: &[u32]) {
@@ -11,7 +11,7 @@ fn print_text(rt: &impl Print, words: &[u32]) {
             // Output that fails is passed over, since the status is 0 in every case (docs/PLANS.md).
             let _ = rt.write_all(front(&text, count));
         }
-        Err(refusal) => print_refused(rt, refusal.number(), 0),
+        Err(refusal) => print_refused_regardless(rt, refusal.number(), 0),
     }
 }
 
@@ -19,6 +19,6 @@ fn main(rt: HostRuntime) {
     let mut room = [0u32; INPUT_WORDS];
     match read_words(&mut rt.reader(), &mut room) {
         Some(words) => print_text(&rt, words),
-        None => print_refused(&rt, 1, 0),
+        None => print_refused_regardless(&rt, 1, 0),
     }
 }

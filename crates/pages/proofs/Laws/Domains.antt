@@ -29,36 +29,25 @@ climb_few : (levels : List Level) (l q : ℕ) → (get_or levels 0 none).columns
 climb_few levels zero q f = rank_few (get_or levels 0 none).columns q f
 climb_few levels (suc l) q f = climb_few levels l (through (get_or levels (suc l) none) q) f
 
-module _ (d : Domain) (l p : ℕ) (given : Level) (h : l < 8) (size : length d.levels ≡ 8) where
-  -- the level of an index
-  level_at : get_or d.levels l none ≡ get_or d.levels l given
-  level_at = get_or_default d.levels l none given (omega arith)
+-- the level of an index
+pub level_at : (levels : List Level) (l : ℕ) (given : Level) {level : Level} → l < 8 → length levels ≡ 8 → get_or levels l given ≡ level
+    → get_or levels l none ≡ level
+level_at levels l given h size e = get_or_default levels l none given (omega arith) ∙ e
 
-  -- a level that is not read has no columns
-  pub unread : (get_or d.levels l given).base ≡ None → 0 ≡ place_in d l p
-  unread e =
-      let f : (get_or d.levels l none).base ≡ None = ap (λ (x : Level). x.base) level_at ∙ e in
-      rw f (sym (climb_zero d.levels (suc l)))
+-- a level that is not read has no columns
+pub unread : (d : Domain) (l p : ℕ) → (get_or d.levels l none).base ≡ None → 0 ≡ place_in d l p
+unread d l p e = rw e (sym (climb_zero d.levels (suc l)))
 
-  -- where a column stands in the set of its level
-  pub read : {base r : ℕ} (other : Level) → (get_or d.levels l given).base ≡ Some base → r ≡ rank (get_or d.levels l other).columns (base + p)
-      → climb d.levels l r ≡ place_in d l p
-  read {base} other e f =
-      let g : (get_or d.levels l none).base ≡ Some base = ap (λ (x : Level). x.base) level_at ∙ e in
-      let s : (get_or d.levels l none).columns ≡ (get_or d.levels l other).columns =
-      ap (λ (x : Level). x.columns) (get_or_default d.levels l none other (omega arith)) in
-      rw (f, g, s)
+-- where a column stands in the set of its level
+pub read : (d : Domain) (l p r : ℕ) {level : Level} {base : ℕ} → get_or d.levels l none ≡ level → level.base ≡ Some base
+    → r ≡ rank level.columns (base + p) → climb d.levels l r ≡ place_in d l p
+read d l p r e b f = rw (e, b, f)
 
 -- one level passed, in the code's arithmetic
-pub passed : (levels : List Level) (l q r : ℕ) (given : Level) {x : ℕ} → climb levels l q ≡ x → 0 < l → l ≤ 8 → length levels ≡ 8
-    → r ≡ rank (get_or levels (l - 1) given).columns q → climb levels (l - 1) r ≡ x
-passed levels zero q r given e h few size f = absurd (omega arith)
-passed levels (suc l) q r given e h few size f =
-    let k : suc l - 1 ≡ l = omega arith in
-    let s : (get_or levels l none).columns ≡ (get_or levels l given).columns =
-    ap (λ (x : Level). x.columns) (get_or_default levels l none given (omega arith)) in
-    let f' = rw k at f in
-    rw (k, f', ← s) e
+pub passed : (levels : List Level) (l q r : ℕ) {x : ℕ} {level : Level} → climb levels l q ≡ x → 0 < l → get_or levels (l - 1) none ≡ level
+    → r ≡ through level q → climb levels (l - 1) r ≡ x
+passed levels zero q r e h f g = absurd (omega arith)
+passed levels (suc l) q r e h f g = let k : suc l - 1 ≡ l = omega arith in let f' = rw k at f in rw (k, g, ← f') e
 
 -- all levels passed
 pub passed_all : (levels : List Level) (l q : ℕ) {x : ℕ} → climb levels l q ≡ x → l ≤ 0 → q ≡ x
